@@ -1,0 +1,2 @@
+pub mod Q
+pub mod Bench

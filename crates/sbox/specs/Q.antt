@@ -1,0 +1,61 @@
+-- The paper's permutations q0 and q1 of the bytes, each by four rows of sixteen nibbles, and the order in which h takes them.
+use mathlib.Core.List.{List, [], _∷_}
+use Prim.Native.Nat.{ℕ, _+_, _*_, _/_, _%_}
+use lib.Bits.{bitXor}
+use lib.ListN.{getD}
+use Rattle.words.specs.Word.{ror}
+
+-- a ⊕ ROR4(b, 1) ⊕ (8 a mod 16)
+unfoldable pub mixed : ℕ → ℕ → ℕ
+mixed a b = bitXor (bitXor a (ror 4 1 b)) (8 * a % 16)
+
+-- the paper's q over four rows t0 .. t3
+unfoldable pub permuted : (ℕ → ℕ → ℕ) → ℕ → ℕ
+permuted t x =
+    let a₀ : ℕ = x / 16 in
+    let b₀ : ℕ = x % 16 in
+    let a₁ : ℕ = bitXor a₀ b₀ in
+    let b₁ : ℕ = mixed a₀ b₀ in
+    let a₂ : ℕ = t 0 a₁ in
+    let b₂ : ℕ = t 1 b₁ in
+    let a₃ : ℕ = bitXor a₂ b₂ in
+    let b₃ : ℕ = mixed a₂ b₂ in
+    let a₄ : ℕ = t 2 a₃ in
+    let b₄ : ℕ = t 3 b₃ in
+    16 * b₄ + a₄
+
+-- the paper's rows: of q0, and of q1
+unfoldable pub qbox : List (List (List ℕ))
+qbox =
+    ((0x8 ∷ 0x1 ∷ 0x7 ∷ 0xd ∷ 0x6 ∷ 0xf ∷ 0x3 ∷ 0x2 ∷ 0x0 ∷ 0xb ∷ 0x5 ∷ 0x9 ∷ 0xe ∷ 0xc ∷ 0xa ∷ 0x4 ∷ [])
+    ∷ (0xe ∷ 0xc ∷ 0xb ∷ 0x8 ∷ 0x1 ∷ 0x2 ∷ 0x3 ∷ 0x5 ∷ 0xf ∷ 0x4 ∷ 0xa ∷ 0x6 ∷ 0x7 ∷ 0x0 ∷ 0x9 ∷ 0xd ∷ [])
+    ∷ (0xb ∷ 0xa ∷ 0x5 ∷ 0xe ∷ 0x6 ∷ 0xd ∷ 0x9 ∷ 0x0 ∷ 0xc ∷ 0x8 ∷ 0xf ∷ 0x3 ∷ 0x2 ∷ 0x4 ∷ 0x7 ∷ 0x1 ∷ [])
+    ∷ (0xd ∷ 0x7 ∷ 0xf ∷ 0x4 ∷ 0x1 ∷ 0x2 ∷ 0x6 ∷ 0xe ∷ 0x9 ∷ 0xb ∷ 0x3 ∷ 0x0 ∷ 0x8 ∷ 0x5 ∷ 0xc ∷ 0xa ∷ [])
+    ∷ [])
+    ∷ ((0x2 ∷ 0x8 ∷ 0xb ∷ 0xd ∷ 0xf ∷ 0x7 ∷ 0x6 ∷ 0xe ∷ 0x3 ∷ 0x1 ∷ 0x9 ∷ 0x4 ∷ 0x0 ∷ 0xa ∷ 0xc ∷ 0x5 ∷ [])
+    ∷ (0x1 ∷ 0xe ∷ 0x2 ∷ 0xb ∷ 0x4 ∷ 0xc ∷ 0x3 ∷ 0x7 ∷ 0x6 ∷ 0xd ∷ 0xa ∷ 0x5 ∷ 0xf ∷ 0x9 ∷ 0x0 ∷ 0x8 ∷ [])
+    ∷ (0x4 ∷ 0xc ∷ 0x7 ∷ 0x5 ∷ 0x1 ∷ 0x6 ∷ 0x9 ∷ 0xa ∷ 0x0 ∷ 0xe ∷ 0xd ∷ 0x8 ∷ 0x2 ∷ 0xb ∷ 0x3 ∷ 0xf ∷ [])
+    ∷ (0xb ∷ 0x9 ∷ 0x5 ∷ 0x1 ∷ 0xc ∷ 0x3 ∷ 0xd ∷ 0xe ∷ 0x6 ∷ 0x4 ∷ 0x7 ∷ 0xf ∷ 0x2 ∷ 0x0 ∷ 0x8 ∷ 0xa ∷ [])
+    ∷ [])
+    ∷ []
+
+-- entry n of row j of permutation i in a table of nibbles
+unfoldable pub row : List (List (List ℕ)) → ℕ → ℕ → ℕ → ℕ
+row t i j n = getD (getD (getD t i []) j []) n 0 % 16
+
+-- permutation i of a table, i taken modulo 2
+unfoldable pub qOf : List (List (List ℕ)) → ℕ → ℕ → ℕ
+qOf t i x = permuted (row t (i % 2)) x
+
+-- q0 (i = 0) and q1 (i = 1)
+abbrev pub q : ℕ → ℕ → ℕ
+q = qOf qbox
+
+-- which of q0 and q1 byte j of h goes through at each of its five steps: those for the fourth and third word first, then the last three
+unfoldable pub qord : List (List ℕ)
+qord =
+    (1 ∷ 1 ∷ 0 ∷ 0 ∷ 1 ∷ [])
+    ∷ (0 ∷ 1 ∷ 1 ∷ 0 ∷ 0 ∷ [])
+    ∷ (0 ∷ 0 ∷ 0 ∷ 1 ∷ 1 ∷ [])
+    ∷ (1 ∷ 0 ∷ 1 ∷ 1 ∷ 0 ∷ [])
+    ∷ []
