@@ -1,0 +1,6 @@
+pub mod BytesLaws
+pub mod PartsLaws
+pub mod RefusalLaws
+pub mod Front
+pub mod Outcome
+pub mod Unique
