@@ -1,4 +1,6 @@
 // The two block directions: g over the S words, the rounds, and a block of bytes enciphered or deciphered where it lies.
+#![tactic(auto)]
+
 ghost use Rattle.std.specs.Prelude.{◌≡◌, ◌+◌, ◌*◌, ◌<◌, ◌≤◌, eqb, length};
 ghost use Rattle.words.specs.Word.{bytes_of};
 ghost use Rattle.spans.specs.Bytes.{cond};

@@ -1,4 +1,6 @@
 // Products in GF(2^8), and the paper's matrices MDS and RS over them.
+#![tactic(auto)]
+
 ghost use Rattle.std.specs.Prelude.{◌≡◌, ◌+◌, ◌<◌, ◌≤◌, get_or};
 ghost use Rattle.words.specs.Word.{word_of};
 ghost use Rattle.field.specs.Field.{mul};

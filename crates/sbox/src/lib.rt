@@ -1,4 +1,6 @@
 // The permutations q0 and q1 of the bytes, from their rows of nibbles, and the order in which h takes them.
+#![tactic(auto)]
+
 ghost use Rattle.std.specs.Prelude.{◌≡◌, ◌%◌, ◌<◌};
 ghost use Rattle.sbox.specs.Q.{mixed, row, q_of, qbox, qord};
 

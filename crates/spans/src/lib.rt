@@ -1,4 +1,6 @@
 // Bytes moved between slices: copied, set to one value, xored, and a block taken by value.
+#![tactic(auto)]
+
 ghost use Rattle.std.specs.Prelude.{◌≡◌, min, length, take, replicate};
 ghost use Rattle.spans.specs.Bytes.{xor_bytes};
 ghost use Rattle.spans.specs.Parts.{splice};

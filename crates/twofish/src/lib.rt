@@ -1,4 +1,6 @@
 // The cipher's type with its constants, and key set-up: h over the key's words, the subkeys and the S bytes.
+#![tactic(auto)]
+
 ghost use Rattle.std.specs.Prelude.{◌≡◌, ◌++◌, ◌+◌, ◌-◌, ◌*◌, ◌<◌, ◌≤◌, ltb, length, replicate};
 ghost use Rattle.words.specs.Word.{bytes_of};
 ghost use Rattle.spans.specs.Bytes.{xor_bytes, cond};

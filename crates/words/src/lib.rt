@@ -1,4 +1,6 @@
 // Nibbles, bytes and 32-bit words: the shifts, masks and sums that the cipher is made of, each against its arithmetic meaning.
+#![tactic(auto)]
+
 ghost use Rattle.std.specs.Prelude.{◌≡◌, ◌*◌, ◌%◌};
 ghost use Rattle.words.specs.Word.{rol, ror, sum32, word_of, byte_of, bytes_of};
 
