@@ -1,15 +1,13 @@
 -- Laws of parts of a list and of a list with a part replaced.
-use mathlib.Core.Path.{◌≡◌, refl, sym, ap, ◌∙◌}
+use mathlib.Core.Path.{◌≡◌, sym, ap, ◌∙◌}
 use mathlib.Core.List.{List, [], ◌∷◌, ◌++◌, append_assoc, append-nil}
-use Prim.Native.Nat.{ℕ, zero, suc, ◌+◌, ◌*◌, ◌-◌, ◌≤◌, ◌<◌}
+use Prim.Native.Nat.{ℕ, zero, suc, ◌+◌, ◌*◌, ◌≤◌}
 use native.Mathlib.Nat.{suc-add, zero-add}
 use native.Mathlib.Omega.{arith}
 use borrow.Rule.Slice.PartMut.{put_mid}
-use lib.ListN.{length, take, drop, replicate, length-append, length-drop, take-append-drop}
-use lib.Seq.{length-take-le, take_at, drop_at, take_all, drop-drop, drop-length, take-nil, take-append-le, take-take, take-append-add, drop-append-add}
-use Rattle.spans.specs.Bytes.{Bytes}
-use Rattle.spans.specs.Parts.{part, splice, concat}
-use Rattle.spans.proofs.BytesLaws.{AllBytes, AllBytes-append, AllBytes-take, AllBytes-drop}
+use lib.ListN.{length, take, drop, replicate, length-append, length-drop}
+use lib.Seq.{length-take-le, take_at, drop_at, take_all, drop-drop, drop-length, take-nil, take-append-le, take-take}
+use Rattle.spans.specs.Parts.{part, splice}
 
 module _ (o : ℕ) (vs l : List ℕ) (fits : o + length vs ≤ length l) where
   head_length : length (take o l) ≡ o

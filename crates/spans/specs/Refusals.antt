@@ -1,5 +1,5 @@
 -- Refusals in their order: the number given is that of the first whose condition holds.
-use Rattle.std.specs.Prelude.{Bool, true, false, List, [], ◌∷◌, ℕ, eqb}
+use Rattle.std.specs.Prelude.{Bool, List, [], ◌∷◌, ℕ, eqb}
 use Rattle.spans.specs.Bytes.{cond}
 
 -- a refusal: its number, and whether its condition holds
