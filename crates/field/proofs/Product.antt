@@ -7,7 +7,7 @@ use lib.Arith.{lt-one}
 use lib.Bits.{bit_xor, xor_lt, xor_self, xor_zero_r, xor_shr, xor_mod}
 use lib.Dec.{lit<}
 use lib.Pow.{pow_mono, pow_pos, shl-shr, shr-shr, shr_lt, split}
-use Rattle.words.proofs.Xor.{xor_assoc, xor_exchange, xor_double}
+use Rattle.words.proofs.Xor.{xor_exchange, xor_double}
 use Rattle.field.specs.Field.{scale, product, remainder, mul}
 
 -- ---- digits

@@ -1,5 +1,5 @@
 -- The rows of a matrix product, one column more at a time, and the columns of MDS as words.
-use mathlib.Core.Path.{◌≡◌, refl, sym, ap, ap₂, ◌∙◌}
+use mathlib.Core.Path.{◌≡◌, sym, ap, ap₂, ◌∙◌}
 use mathlib.Core.Bool.{Bool}
 use mathlib.Core.List.{List, [], ◌∷◌}
 use Prim.Native.Nat.{ℕ, zero, suc, ◌+◌, ◌*◌, ◌^◌, ◌<◌, ◌≤◌}
@@ -11,7 +11,7 @@ use lib.ListN.{get_or, get_or-eq_default}
 use Rattle.words.specs.Word.{word_of}
 use Rattle.words.proofs.Finite.{same, at₂}
 use Rattle.field.specs.Field.{product, remainder, mul}
-use Rattle.field.specs.Matrix.{mds_poly, mds, entry, row_times, times, mds_times, mds_column}
+use Rattle.field.specs.Matrix.{mds_poly, mds, entry, row_times, times, mds_column}
 use Rattle.field.proofs.Product.{mul-lt}
 
 -- ---- words of bytes, added byte by byte

@@ -1,5 +1,5 @@
 -- The paper's two matrices of field bytes, and their products with a vector of bytes.
-use Rattle.std.specs.Prelude.{ℕ, zero, suc, List, [], ◌∷◌, map, get_or}
+use Rattle.std.specs.Prelude.{ℕ, zero, suc, List, [], ◌∷◌, get_or}
 use Rattle.std.specs.Int.Bits.{bit_xor}
 use Rattle.words.specs.Word.{word_of}
 use Rattle.field.specs.Field.{mul}

@@ -1,13 +1,10 @@
 -- `field::double` meets its contract: the mask tests the top digit, the shift drops it, and with it x^8 of the polynomial.
-use mathlib.Core.Path.{◌≡◌, sym, ap, ◌∙◌}
-use Prim.Native.Nat.{ℕ, ◌+◌, ◌*◌, ◌/◌, ◌%◌, ◌^◌, ◌<◌}
-use native.Mathlib.Nat.{zero-add}
-use native.Mathlib.Omega.{arith}
-use lib.Bits.{bit_and, bit_xor, and_high, xor_block, xor_zero_r}
+use Rattle.std.proofs.Common.{◌≡◌, ℕ, ◌+◌, ◌*◌, ◌/◌, ◌%◌, ◌^◌, ◌<◌, bit_and, sym, ap, ◌∙◌, arith}
+use Rattle.std.proofs.Math.Nat.{zero-add}
+use lib.Bits.{bit_xor, and_high, xor_block, xor_zero_r}
 use Rattle.field.specs.Field.{mul}
 use Rattle.field.proofs.Product.{twice, mul_two}
-use Rattle.field.proofs.double.Statement.{statement}
-use Rattle.field.proofs.double.Tie as tie
+use Rattle.field.proofs.double.Goals as goal
 
 -- the mask keeps the top digit
 top : (b : ℕ) → b < 256 → bit_and b 128 ≡ b / 128 * 128
@@ -33,11 +30,8 @@ module _ (b p : ℕ) (hb : b < 256) (hp : p < 256) where
       let whole : b * 2 % 256 ≡ 2 * b = omega arith in
       whole ∙ sym (mul_two (256 + p) (omega arith) (omega arith) b hb ∙ rw none (xor_zero_r (2 * b)))
 
-returns : tie.Need-returns
-returns c = with_top c.before.args.b c.before.args.p (omega arith) (omega arith) c.if1.true
+pub returns-then-b-eq128 : goal.returns-then-b-eq128
+returns-then-b-eq128 c = with_top c.args.b c.args.p (omega arith) (omega arith) c.if-b-eq128.true
 
-returns-2 : tie.Need-returns-2
-returns-2 c = without_top c.before.args.b c.before.args.p (omega arith) (omega arith) c.if1.false
-
-pub double-spec : {M : Type 1} → statement M
-double-spec = tie.close (tie.spec returns returns-2)
+pub returns-else-b-eq128 : goal.returns-else-b-eq128
+returns-else-b-eq128 c = without_top c.args.b c.args.p (omega arith) (omega arith) c.if-b-eq128.false
