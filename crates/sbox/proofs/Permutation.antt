@@ -5,7 +5,7 @@ use Prim.Native.Nat.{ℕ, ◌<◌}
 use lib.Dec.{T, eqb, ltb, eqb→eq, ltb→lt}
 use borrow.Author.Tests.{eq-eqb}
 use Rattle.words.specs.Word.{ror}
-use Rattle.words.proofs.Finite.{all, at₂, at₃}
+use Rattle.words.proofs.Finite.{at₂, at₃}
 use Rattle.sbox.specs.Q.{mixed, permuted, qbox, row, q_of, q}
 
 -- b wherever a

@@ -1,2 +1,1 @@
 pub mod Q
-pub mod Bench

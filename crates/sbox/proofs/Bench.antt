@@ -1,5 +1,5 @@
 -- The bench values that document 01 marks to be proved, as one computed table under one claim.
-use Rattle.std.specs.Prelude.{◌≡◌, refl, List, [], ◌∷◌, ◌++◌, ℕ}
+use Rattle.std.specs.Prelude.{◌≡◌, refl, [], ◌∷◌, ◌++◌}
 use Rattle.words.specs.Word.{ror, word_of}
 use Rattle.field.specs.Field.{product, remainder, mul}
 use Rattle.field.specs.Matrix.{mds_poly, rs_poly, mds, rs, entry, row_times, times, rs_times, mds_column}
