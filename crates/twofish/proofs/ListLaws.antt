@@ -8,7 +8,7 @@ use native.Mathlib.Numerals.{add-one}
 use native.Mathlib.Omega.{arith}
 use lib.ListN.{length, get_or, set, take, drop, replicate, length-append, length-set, get_or-append}
 use lib.Seq.{take-suc-set, take_all, take_at, drop-append-add, get_or_at, sets-eq}
-use Rattle.words.specs.Word.{word_of, bytes_of}
+use Rattle.words.specs.Word.{bytes_of}
 use Rattle.words.proofs.Bytes.{bytes_word, four}
 use Rattle.spans.specs.Parts.{concat, splice}
 use Rattle.twofish.specs.Lists.{listed, word_at}

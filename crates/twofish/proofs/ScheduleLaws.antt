@@ -59,7 +59,7 @@ taken_units n e = by (eqb n 16) (eqb n 24) (eqb n 32) refl refl refl e
     by true b c ea eb ec t = is 2 (eqb-true n 16 ea) (lit≤ tt) (lit≤ tt)
     by false true c ea eb ec t = is 3 (eqb-true n 24 eb) (lit≤ tt) (lit≤ tt)
     by false false true ea eb ec t = is 4 (eqb-true n 32 ec) (lit≤ tt) (lit≤ tt)
-    by false false false ea eb ec t = absurd (let z : ◌≡◌ {a_word = ℕ} 0 1 = cc in omega arith)
+    by false false false ea eb ec t = absurd (let z : ◌≡◌ {A = ℕ} 0 1 = cc in omega arith)
 
 -- what set-up hands back for a length that is taken, and for another
 pub set_up_taken :
