@@ -1,17 +1,17 @@
 -- Blocks of 16 bytes and their four words.
-use mathlib.Core.Path.{◌≡◌, refl, sym, ap, ◌∙◌}
-use mathlib.Core.List.{List, [], ◌∷◌, ◌++◌}
-use Prim.Native.Nat.{ℕ, zero, suc, ◌+◌, ◌*◌, ◌^◌, ◌<◌}
+use mathlib.Core.Path.{◌≡◌, ap, ◌∙◌}
+use mathlib.Core.List.{List, [], ◌++◌}
+use Prim.Native.Nat.{ℕ}
 use native.Mathlib.Omega.{arith}
-use lib.ListN.{length, drop, get_or, length-drop, drop_of_length-le}
+use lib.ListN.{length, drop, length-drop, drop_of_length-le}
 use Rattle.words.specs.Word.{bytes_of}
 use Rattle.spans.specs.Parts.{splice}
 use Rattle.block.specs.declared.Words.{Words}
-use Rattle.block.specs.Block.{words_of, block_of}
+use Rattle.block.specs.Block.{block_of}
 
 -- nothing is left after four words
 gone : (l : List ℕ) → length l ≡ 16 → drop 4 (drop 4 (drop 4 (drop 4 l))) ≡ []
-gone l e = drop_of_length-le (drop 4 (drop 4 (drop 4 l))) (simp length-drop (omega arith))
+gone l e = drop_of_length-le (drop 4 (drop 4 (drop 4 l))) {i = 4} (simp length-drop (omega arith))
 
 -- four words put one after the other are a block
 pub put_all :

@@ -1,15 +1,15 @@
 -- h over the S words, one byte of the word at a time: the paper's steps in the order in which the code takes them.
 use mathlib.Core.Path.{◌≡◌, refl, sym, ap, ap₂, ◌∙◌}
-use mathlib.Core.List.{List, [], ◌∷◌}
-use Prim.Native.Nat.{ℕ, zero, suc, ◌+◌, ◌-◌, ◌*◌, ◌<◌, ◌≤◌}
+use mathlib.Core.List.{List, []}
+use Prim.Native.Nat.{ℕ, zero, suc, ◌+◌, ◌-◌, ◌*◌, ◌<◌}
 use native.Mathlib.Omega.{arith}
 use lib.Bits.{bit_xor}
-use lib.ListN.{length, get_or}
+use lib.ListN.{get_or}
 use Rattle.words.specs.Word.{byte_of, bytes_of}
 use Rattle.spans.specs.Bytes.{xor_bytes}
 use Rattle.field.specs.Matrix.{entry}
 use Rattle.sbox.specs.Q.{q, q_of, qbox, qord}
-use Rattle.twofish.specs.Lists.{listed, word_at}
+use Rattle.twofish.specs.Lists.{word_at}
 use Rattle.twofish.specs.H.{permuted_at, through, y}
 use Rattle.twofish.proofs.ListLaws.{listed_at, bytes_at}
 use Rattle.block.specs.Block.{s_list, s_words}
