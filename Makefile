@@ -3,8 +3,8 @@
 .PHONY: help test
 
 help:
-	@echo 'make test     the gate: prove every crate from nothing, try the must-fail edits, run the programs'
+	@echo 'make test     the gate: prove every crate, try the must-fail edits, run the programs'
 
 test:
-	@echo 'The gate: every crate is proved from nothing, which takes some minutes.'
+	@echo 'The gate: every crate that has not passed here is proved from nothing, which takes some minutes.'
 	.ci/run

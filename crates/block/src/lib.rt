@@ -15,7 +15,7 @@ ghost use Rattle.block.specs.Block.{s_list, s_words, g, subkey, words_of, block_
 use twofish::{Answer, Twofish};
 
 // The four words of a block.
-#[derive(Drop)]
+#[derive(Clone, Copy)]
 pub struct Words {
     pub a: u32,
     pub b: u32,

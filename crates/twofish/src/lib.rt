@@ -11,7 +11,7 @@ ghost use Rattle.twofish.specs.H.{through, h};
 ghost use Rattle.twofish.specs.Schedule.{every_other, s_bytes, k_word, schedule, taken, set_up};
 
 // The schedule: 16 S bytes in key order, 40 subkeys and the start number, which is 0, 1, 2 for 32, 24, 16 key bytes.
-#[derive(Drop)]
+#[derive(Clone, Copy)]
 pub struct Twofish {
     pub s: [u8; 16],
     pub k: [u32; 40],
@@ -20,14 +20,14 @@ pub struct Twofish {
 
 // What a call answers: the number of the refusal, or 0, and a count.
 #[repr(C)]
-#[derive(Drop)]
+#[derive(Clone, Copy)]
 pub struct Answer {
     pub number: u32,
     pub count: u32,
 }
 
 // What set-up answers: number and count, and the schedule.
-#[derive(Drop)]
+#[derive(Clone, Copy)]
 pub struct SetUp {
     pub number: u32,
     pub count: u32,
