@@ -9,6 +9,10 @@ unfolding unround
 returns c =
     let a = c.args in
     let v = g a.s.now a.start in
-    let t₀ = is_f₀ v a.k0 a.w.c a.w.d _ _ _ _ c.g_func.ensures c.rotate_left.ensures c.g_func-t1.ensures c.wrapping_add-t0.ensures _ c.wrapping_add-f0.ensures in
-    let t₁ = is_f₁ v a.k1 a.w.c a.w.d _ _ _ _ c.g_func.ensures c.rotate_left.ensures c.g_func-t1.ensures c.wrapping_add-t0.ensures _ _ c.wrapping_add.ensures c.wrapping_add-f1.ensures in
-    cc (t₀, t₁)
+    let e₀ =
+    is_f₀ v a.k0 a.w.c a.w.d _ _ _ _ c.g_func.ensures c.rotate_left.ensures c.g_func-t1.ensures c.wrapping_add-t0.ensures
+    _ c.wrapping_add-f0.ensures in
+    let e₁ =
+    is_f₁ v a.k1 a.w.c a.w.d _ _ _ _ c.g_func.ensures c.rotate_left.ensures c.g_func-t1.ensures c.wrapping_add-t0.ensures
+    _ _ c.wrapping_add.ensures c.wrapping_add-f1.ensures in
+    cc (e₀, e₁)

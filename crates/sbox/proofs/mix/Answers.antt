@@ -1,4 +1,4 @@
--- `sbox::mix` meets its contract, from what the two nibble helpers ensure.
+-- `sbox::mix` meets its contract, from what `ror4` and `times8` ensure.
 use Rattle.std.proofs.Common.{◌≡◌, ℕ, ◌*◌, ◌%◌, ◌<◌, ap, ap₂, ◌∙◌, arith}
 use mathlib.Core.Path.{subst⁻¹}
 use Rattle.std.proofs.Math.Nat.{mod-eq_of_lt}

@@ -1,4 +1,4 @@
--- The loop of `spans::copy`: after i turns i of the first bytes of src stand in front.
+-- The loop of `spans::copy`: after i turns the first i bytes of src stand in front.
 use Rattle.std.proofs.Common.{◌-◌, length, take}
 use Rattle.spans.proofs.Front.{Front}
 use Rattle.spans.proofs.copy.Given as goal

@@ -1,4 +1,4 @@
--- The loop of `spans::fill`: after i turns i of bytes v stand in front.
+-- The loop of `spans::fill`: after i turns the first i bytes are v.
 use Rattle.std.proofs.Common.{◌-◌, length, replicate}
 use Rattle.spans.proofs.Front.{Front}
 use Rattle.spans.proofs.fill.Given as goal

@@ -1,4 +1,4 @@
--- The loop of `spans::xor`: after i turns i of the first bytes of the xor stand in front.
+-- The loop of `spans::xor`: after i turns the first i bytes of the xor stand in front.
 use Rattle.std.proofs.Common.{◌-◌}
 use Rattle.spans.specs.Bytes.{xor_bytes}
 use Rattle.spans.proofs.Front.{Front}
