@@ -1,3 +1,4 @@
 pub mod Columns
 pub mod Bytes16
 pub mod RoundLaws
+pub mod NumberLaws

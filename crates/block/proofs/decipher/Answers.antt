@@ -1,26 +1,17 @@
 -- `block::decipher` meets its contract: refusal 2, refusal 3, else the block deciphered.
 use Rattle.std.proofs.Common.{ap, ◌∙◌}
-use Rattle.std.proofs.lemmas.Bool.{lt-ltb}
-use borrow.Author.Tests.{le-ltb, eq-eqb, ne_eqb}
-use Rattle.spans.specs.Refusals.{given}
-use Rattle.twofish.specs.Answers.{answer}
-use Rattle.block.specs.Block.{block_of, deciphered, block_number}
+use Rattle.block.specs.Block.{block_of, deciphered}
+use Rattle.block.proofs.NumberLaws.{start_refused, length_refused, accepted}
 use Rattle.block.proofs.decipher.Goals as goal
 
 pub returns-then-start-gt2 : goal.returns-then-start-gt2
-unfolding block_number given answer
-returns-then-start-gt2 c = let t = lt-ltb _ _ c.if-start-gt2.true in (simp t, simp t)
+returns-then-start-gt2 c = start_refused c.args.t c.args.block.now _ c.if-start-gt2.true
 
 pub returns-then-block-ne-BLOCK : goal.returns-then-block-ne-BLOCK
-unfolding block_number given answer
-returns-then-block-ne-BLOCK c =
-    let t = le-ltb _ _ c.if-start-gt2.false in
-    let u = ne_eqb _ _ c.if-block-ne-BLOCK.true in
-    (simp (t, u), simp (t, u))
+returns-then-block-ne-BLOCK c = length_refused c.args.t c.args.block.now _ c.if-start-gt2.false c.if-block-ne-BLOCK.true
 
 pub returns : goal.returns
-unfolding block_number given answer deciphered
+unfolding deciphered
 returns c =
-    let t = le-ltb _ _ c.if-start-gt2.false in
-    let u = eq-eqb _ _ c.if-block-ne-BLOCK.false in
-    (simp (t, u), simp (t, u) (c.store.ensures ∙ ap block_of c.decipher_words-v.ensures ∙ cc))
+    accepted c.args.t c.args.block.now _ _ c.if-start-gt2.false c.if-block-ne-BLOCK.false
+    (c.store.ensures ∙ ap block_of c.decipher_words-v.ensures ∙ cc)
