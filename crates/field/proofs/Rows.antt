@@ -2,17 +2,19 @@
 use mathlib.Core.Path.{◌≡◌, sym, ap, ap₂, ◌∙◌}
 use mathlib.Core.Bool.{Bool}
 use mathlib.Core.List.{List, [], ◌∷◌}
+use mathlib.Core.Logic.{⊎_elim}
 use Prim.Native.Nat.{ℕ, zero, suc, ◌+◌, ◌*◌, ◌^◌, ◌<◌, ◌≤◌}
+use native.Mathlib.Nat.{eq-or-lt_of_le, le_of_suc-le-suc}
 use native.Mathlib.Numerals.{add-one}
 use native.Mathlib.Omega.{arith}
-use lib.Bits.{bit_xor, xor_lt, xor_block}
+use lib.Bits.{bit_xor, xor_lt, xor_block, xor_zero_r}
 use lib.Dec.{ltb, ltb→lt, lit<, lit≤}
-use lib.ListN.{get_or, get_or-eq_default}
+use lib.ListN.{length, get_or, get_or-eq_default}
 use Rattle.words.specs.Word.{word_of}
 use Rattle.words.proofs.Finite.{same, at₂}
 use Rattle.field.specs.Field.{product, remainder, mul}
 use Rattle.field.specs.Matrix.{mds_poly, mds, entry, row_times, times, mds_column}
-use Rattle.field.proofs.Product.{mul-lt}
+use Rattle.field.proofs.Product.{mul-lt, mul-zero}
 
 -- ---- words of bytes, added byte by byte
 byte_xor : (r s a b : ℕ) → r < 256 → s < 256 → bit_xor (r + 2 ^ 8 * a) (s + 2 ^ 8 * b) ≡ bit_xor r s + 2 ^ 8 * bit_xor a b
@@ -46,6 +48,17 @@ row_lt v lo hi m i y (suc n) small =
 pub row_more : (v : ℕ) (m : List (List ℕ)) (i : ℕ) (y : List ℕ) (n z p : ℕ) → z ≡ row_times v m i y n → p ≡ mul v (get_or y n 0) (entry m i n) → bit_xor z p ≡ row_times v m i y (n + 1)
 unfolding row_times
 row_more v m i y n z p e f = rw add-one (ap₂ bit_xor e f)
+
+-- bytes that are missing count as 0: the sum ends with the vector
+pub row_short : (v : ℕ) (m : List (List ℕ)) (i : ℕ) (y : List ℕ) (n : ℕ) → length y ≤ n → row_times v m i y n ≡ row_times v m i y (length y)
+unfolding row_times
+row_short v m i y zero h = let e : length y ≡ 0 = omega arith in rw e
+row_short v m i y (suc n) h =
+    ⊎_elim (λ e. rw e)
+    (λ l. let past : length y ≤ n = le_of_suc-le-suc l in
+    ap (λ (b : ℕ). bit_xor (row_times v m i y n) (mul v b (entry m i n))) (get_or-eq_default y 0 past)
+    ∙ ap (bit_xor (row_times v m i y n)) (mul-zero v (entry m i n)) ∙ xor_zero_r _ ∙ row_short v m i y n past)
+    (eq-or-lt_of_le h)
 
 -- ---- MDS
 small : ℕ → ℕ → Bool

@@ -1,10 +1,10 @@
 // Products in GF(2^8), and the paper's matrices MDS and RS over them.
 #![tactic(auto)]
 
-ghost use Rattle.std.specs.Prelude.{◌≡◌, ◌+◌, ◌<◌, ◌≤◌, get_or};
+ghost use Rattle.std.specs.Prelude.{◌≡◌, ◌+◌, [], ◌∷◌};
 ghost use Rattle.words.specs.Word.{word_of};
 ghost use Rattle.field.specs.Field.{mul};
-ghost use Rattle.field.specs.Matrix.{mds_column, mds_times, rs_times, row_times, rs_poly, rs};
+ghost use Rattle.field.specs.Matrix.{mds_column, mds_times, rs_times, row_times, rs_poly};
 
 // x^8 + x^6 + x^5 + x^3 + 1 without its top digit.
 pub const MDS_POLY: u8 = 0x69;
@@ -32,11 +32,9 @@ pub fn double(b: u8, p: u8) -> u8
 }
 
 // The product of a and b modulo x^8 + p, by the digits of a from the lowest on.
-pub fn gf_mult(a: u8, b: u8, p: u8) -> u8
+pub fn gf_mult(mut a: u8, mut b: u8, p: u8) -> u8
     ensures { result ≡ mul (256 + p) a b }
 {
-    let mut a = a;
-    let mut b = b;
     let mut result: u8 = 0;
     while a > 0 {
         if a & 1 == 1 {
@@ -67,31 +65,20 @@ pub fn mds_column_mult(x: u8, column: usize) -> u32
 pub fn mds_mult(y: [u8; 4]) -> u32
     ensures { result ≡ word_of (mds_times y) }
 {
-    let mut z: u32 = 0;
-    for i in 0..4 {
-        z ^= mds_column_mult(y[i], i);
+    let mut z = 0;
+    for (i, &b) in y.iter().enumerate() {
+        z ^= mds_column_mult(b, i);
     }
     z
 }
 
-// The byte of a lent vector at j; 0 past its end.
-fn byte_at(m: &[u8], j: usize) -> u8
-    ensures { result ≡ get_or m.now j 0 }
+// A row of eight entries times m. Missing bytes are taken as 0, and those past the eighth are not looked at.
+fn rs_row(row: &[u8; 8], m: &[u8]) -> u8
+    ensures { result ≡ row_times rs_poly (row.now ∷ []) 0 m.now 8 }
 {
-    if j < m.len() {
-        return m[j];
-    }
-    0
-}
-
-// Row i of RS times m.
-fn rs_row(t: &[[u8; 8]; 4], i: usize, m: &[u8]) -> u8
-    requires { (i < 4) × (t.now ≡ rs) }
-    ensures { result ≡ row_times rs_poly rs i m.now 8 }
-{
-    let mut out: u8 = 0;
-    for j in 0..8 {
-        out ^= gf_mult(byte_at(m, j), t[i][j], RS_POLY);
+    let mut out = 0;
+    for (b, e) in m.iter().zip(row) {
+        out ^= gf_mult(*b, *e, RS_POLY);
     }
     out
 }
@@ -100,11 +87,10 @@ fn rs_row(t: &[[u8; 8]; 4], i: usize, m: &[u8]) -> u8
 pub fn rs_mult(m: &[u8]) -> [u8; 4]
     ensures { result ≡ rs_times m.now }
 {
-    let t = RS;
     [
-        rs_row(&t, 0, m),
-        rs_row(&t, 1, m),
-        rs_row(&t, 2, m),
-        rs_row(&t, 3, m),
+        rs_row(&RS[0], m),
+        rs_row(&RS[1], m),
+        rs_row(&RS[2], m),
+        rs_row(&RS[3], m),
     ]
 }

@@ -2,10 +2,11 @@
 #![tactic(auto)]
 
 ghost use Rattle.std.specs.Prelude.{◌≡◌, ◌%◌, ◌<◌};
-ghost use Rattle.sbox.specs.Q.{mixed, row, q_of, qbox, qord};
+ghost use Rattle.field.specs.Matrix.{entry};
+ghost use Rattle.sbox.specs.Q.{mixed, row, q_of, q, qbox, qord};
 
 // Two permutations of four rows of sixteen nibbles each, the paper's t0 to t3 for q0 and for q1.
-const QBOX: [[[u8; 16]; 4]; 2] = [
+static QBOX: [[[u8; 16]; 4]; 2] = [
     [
         [8, 1, 7, 13, 6, 15, 3, 2, 0, 11, 5, 9, 14, 12, 10, 4],
         [14, 12, 11, 8, 1, 2, 3, 5, 15, 4, 10, 6, 7, 0, 9, 13],
@@ -21,7 +22,7 @@ const QBOX: [[[u8; 16]; 4]; 2] = [
 ];
 
 // Which of q0 and q1 each byte of h goes through, a row a byte.
-const QORD: [[usize; 5]; 4] = [
+static QORD: [[usize; 5]; 4] = [
     [1, 1, 0, 0, 1],
     [0, 1, 1, 0, 0],
     [0, 0, 0, 1, 1],
@@ -58,7 +59,7 @@ fn mix(a: u8, b: u8) -> u8
     a ^ words::ror4(b) ^ words::times8(a)
 }
 
-// q of x over the rows t: q0 where i is even, q1 where it is odd.
+// q of x over the rows t: q0 where i is even, q1 where it is odd. i is a number, as document 01 has it: rows are indexed by permutation.
 pub fn sbox(t: &[[[u8; 16]; 4]; 2], i: usize, x: u8) -> u8
     ensures { result ≡ q_of t.now i x }
 {
@@ -74,4 +75,13 @@ pub fn sbox(t: &[[[u8; 16]; 4]; 2], i: usize, x: u8) -> u8
     let a4 = entry(t, p, 2, a3);
     let b4 = entry(t, p, 3, b3);
     (b4 << 4) + a4
+}
+
+// Byte x in place j at step z of h, through q0 or q1 as the order has it; past its end through q0.
+#[inline]
+pub fn permuted_at(z: usize, j: usize, x: u8) -> u8
+    ensures { result ≡ q (entry qord j z) x }
+{
+    let i = if j < 4 && z < 5 { QORD[j][z] } else { 0 };
+    sbox(&QBOX, i, x)
 }

@@ -2,5 +2,4 @@ pub mod BytesLaws
 pub mod PartsLaws
 pub mod RefusalLaws
 pub mod Front
-pub mod Outcome
 pub mod Unique

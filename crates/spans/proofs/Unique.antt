@@ -1,7 +1,6 @@
 -- The promise of each public function admits one outcome.
 use mathlib.Core.Path.{refl, sym, ◌∙◌}
-use Rattle.words.proofs.Outcome.{OneResult}
-use Rattle.spans.proofs.Outcome.{OneOutcome}
+use Rattle.words.proofs.Outcome.{OneResult, OneOutcome}
 use Rattle.spans.proofs.least.Reads as least
 use Rattle.spans.proofs.copy.Reads as copy
 use Rattle.spans.proofs.xor.Reads as xor

@@ -9,7 +9,7 @@ ghost use Rattle.spans.specs.Parts.{splice};
 pub fn least(a: usize, b: usize) -> usize
     ensures { result ≡ min a b }
 {
-    if a < b { a } else { b }
+    a.min(b)
 }
 
 // The first bytes of dst become those of src, as many as both have.
@@ -17,22 +17,17 @@ pub fn copy(dst: &mut [u8], src: &[u8])
     ensures { dst.new ≡ splice 0 (take (length dst.old) src.now) dst.old }
 {
     let n = least(dst.len(), src.len());
-    let mut i = 0;
-    while i < n {
-        dst[i] = src[i];
-        i += 1;
-    }
+    dst[..n].copy_from_slice(&src[..n]);
 }
 
-// The first bytes of dst are xored with those of src, as many as both have.
+// The first bytes of dst are xored with those of src, as many as both have. By places, since after a loop over `iter_mut` and another slice
+// a proof knows only the length.
 pub fn xor(dst: &mut [u8], src: &[u8])
     ensures { dst.new ≡ splice 0 (xor_bytes dst.old src.now) dst.old }
 {
     let n = least(dst.len(), src.len());
-    let mut i = 0;
-    while i < n {
-        dst[i] = dst[i] ^ src[i];
-        i += 1;
+    for i in 0..n {
+        dst[i] ^= src[i];
     }
 }
 
@@ -40,14 +35,10 @@ pub fn xor(dst: &mut [u8], src: &[u8])
 pub fn fill(dst: &mut [u8], v: u8)
     ensures { dst.new ≡ replicate (length dst.old) v }
 {
-    let mut i = 0;
-    while i < dst.len() {
-        dst[i] = v;
-        i += 1;
-    }
+    dst.fill(v);
 }
 
-// The first 16 bytes of src by value, zeros where it has fewer.
+// The first 16 bytes of src by value, zeros where it has fewer: a `TryFrom` would refuse those.
 pub fn block(src: &[u8]) -> [u8; 16]
     ensures { result ≡ splice 0 (take 16 src.now) (replicate 16 0) }
 {

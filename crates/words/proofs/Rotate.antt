@@ -3,7 +3,7 @@ use Rattle.std.proofs.Common.{◌≡◌, ℕ, ◌+◌, ◌-◌, ◌*◌, ◌/◌
 use native.Mathlib.Nat.{mul-mod_left, sub-zero, pow-zero, div-eq_of_lt, mod-one}
 use lib.Arith.{digits_lt}
 use lib.Pow.{mod-pow-add, shl-shr, split, high, low}
-use lib.Bits.{bit_or, or_shifted, or_comm}
+use lib.Bits.{bit_or, or_shifted}
 use Rattle.words.specs.Word.{rol, ror}
 
 -- the j lower and k upper digits change places
@@ -35,9 +35,10 @@ module _ (w n x : ℕ) (le : n ≤ w) (h : x < 2 ^ w) where
   unfolding rol
   rol-or = turned-or (w - n) n w x (omega arith) h
 
-  pub ror-or : bit_or (x / 2 ^ n) (x * 2 ^ (w - n) % 2 ^ w) ≡ ror w n x
-  unfolding ror
-  ror-or = or_comm (x / 2 ^ n) (x * 2 ^ (w - n) % 2 ^ w) ∙ turned-or n (w - n) w x (omega arith) h
+  -- to the right is to the left by the rest
+  pub rol_rest : rol w (w - n) x ≡ ror w n x
+  unfolding rol ror
+  rol_rest = let rest : w - (w - n) ≡ n = omega arith in rw rest
 
   -- each undoes the other
   pub ror-rol : ror w n (rol w n x) ≡ x

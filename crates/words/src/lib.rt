@@ -19,7 +19,7 @@ pub fn times8(a: u8) -> u8
     (a << 3) & 15
 }
 
-// x rotated left by n places, n taken modulo 32.
+// x rotated left by n places, n taken modulo 32, by shifts and `or`.
 pub fn rotate_left(x: u32, n: u32) -> u32
     ensures { result ≡ rol 32 (n % 32) x }
 {
@@ -30,25 +30,21 @@ pub fn rotate_left(x: u32, n: u32) -> u32
     (x << m) | (x >> (32 - m))
 }
 
-// x rotated right by n places, n taken modulo 32.
+// x rotated right by n places, n taken modulo 32: left by the rest of the 32.
 pub fn rotate_right(x: u32, n: u32) -> u32
     ensures { result ≡ ror 32 (n % 32) x }
 {
-    let m = n % 32;
-    if m == 0 {
-        return x;
-    }
-    (x >> m) | (x << (32 - m))
+    rotate_left(x, 32 - n % 32)
 }
 
 // The sum modulo 2^32.
 pub fn wrapping_add(x: u32, y: u32) -> u32
     ensures { result ≡ sum32 x y }
 {
-    std::num::wrapping_add_u32(x, y)
+    x.wrapping_add(y)
 }
 
-// Byte y of a word, the lowest first; 0 past the fourth.
+// Byte y of a word, the lowest first; 0 past the fourth. By a remainder, as document 01 has it.
 pub fn byte_of(x: u32, y: u32) -> u8
     ensures { result ≡ byte_of x y }
 {
@@ -62,17 +58,12 @@ pub fn byte_of(x: u32, y: u32) -> u8
 pub fn from_le_bytes(b: [u8; 4]) -> u32
     ensures { result ≡ word_of b }
 {
-    (b[0] as u32) | ((b[1] as u32) << 8) | ((b[2] as u32) << 16) | ((b[3] as u32) << 24)
+    u32::from_le_bytes(b)
 }
 
 // A word as four bytes, the lowest first.
 pub fn to_le_bytes(x: u32) -> [u8; 4]
     ensures { result ≡ bytes_of x }
 {
-    [
-        (x % 256) as u8,
-        (x / 0x100 % 256) as u8,
-        (x / 0x1_0000 % 256) as u8,
-        (x / 0x100_0000 % 256) as u8,
-    ]
+    x.to_le_bytes()
 }

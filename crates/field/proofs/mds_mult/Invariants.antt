@@ -5,4 +5,4 @@ use Rattle.field.specs.Matrix.{mds_poly, mds, times}
 use Rattle.field.proofs.mds_mult.Given as goal
 
 abbrev pub invariant-loop-i : goal.invariant-loop-i
-invariant-loop-i l = l.z ≡ word_of (times mds_poly mds l.i l.y)
+invariant-loop-i l = l.z ≡ word_of (times mds_poly mds l.i l.fn.y)
