@@ -1,8 +1,7 @@
 -- What a block direction answers and leaves, by the tests that its code makes: x is what a block that is taken becomes.
-use Rattle.std.proofs.Common.{◌≡◌, ℕ, ◌<◌, ◌≤◌, List, length, eqb}
+use Rattle.std.proofs.Common.{◌≡◌, ℕ, ◌<◌, ◌≤◌, List, length, eqb, subst, cond}
 use Rattle.std.proofs.lemmas.Bool.{lt-ltb}
 use borrow.Author.Tests.{le-ltb, eq-eqb, ne_eqb}
-use Rattle.spans.specs.Bytes.{cond}
 use Rattle.spans.specs.Refusals.{given}
 use Rattle.twofish.specs.declared.Twofish.{Twofish}
 use Rattle.twofish.specs.declared.Answer.{Answer}
@@ -12,6 +11,10 @@ use Rattle.block.specs.Block.{block_number}
 -- the answer a and the bytes s afterwards are those of a call on l
 abbrev pub Gives : Twofish → List ℕ → List ℕ → Answer → List ℕ → Type 0
 Gives t l x a s = (a ≡ answer (block_number t l) 0) × (s ≡ cond (eqb (block_number t l) 0) x l)
+
+-- a start that is taken, of a schedule that is kept
+pub start_taken : (u t : Twofish) → u ≡ t → u.start ≤ 2 → t.start ≤ 2
+start_taken u t e h = subst (λ (v : Twofish). v.start ≤ 2) e h
 
 module _ (t : Twofish) (l x : List ℕ) where
   pub start_refused : 2 < t.start → Gives t l x record { number = 2; count = 0 } l

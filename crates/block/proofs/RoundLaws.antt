@@ -26,12 +26,12 @@ module _ (r : ℕ) where
   second₀ : 2 * suc (2 * r) + 8 ≡ 4 * r + 8 + 2
   second₀ = omega arith
 
-  second₁ : 2 * suc (2 * r) + 9 ≡ 4 * r + 8 + 3
+  second₁ : 2 * suc (2 * r) + 9 ≡ 4 * r + 8 + 2 + 1
   second₁ = omega arith
 
 pub rounds_two :
     (g K : ℕ → ℕ) (r : ℕ) (w p q v : Words) → p ≡ rounds g K (2 * r) w → q ≡ round g (K (4 * r + 8)) (K (4 * r + 8 + 1)) p
-    → v ≡ round g (K (4 * r + 8 + 2)) (K (4 * r + 8 + 3)) q → v ≡ rounds g K (2 * (r + 1)) w
+    → v ≡ round g (K (4 * r + 8 + 2)) (K (4 * r + 8 + 2 + 1)) q → v ≡ rounds g K (2 * (r + 1)) w
 unfolding rounds
 rounds_two g K r w p q v ep eq ev =
     let two : 2 * (r + 1) ≡ suc (suc (2 * r)) = omega arith in
@@ -40,7 +40,7 @@ rounds_two g K r w p q v ep eq ev =
 -- and undone
 pub unrounds_two :
     (g K : ℕ → ℕ) (n r : ℕ) (c q v t : Words) → n ≡ r + 1 → unrounds g K (2 * n) c ≡ t
-    → q ≡ unround g (K (4 * r + 8 + 2)) (K (4 * r + 8 + 3)) c → v ≡ unround g (K (4 * r + 8)) (K (4 * r + 8 + 1)) q
+    → q ≡ unround g (K (4 * r + 8 + 2)) (K (4 * r + 8 + 2 + 1)) c → v ≡ unround g (K (4 * r + 8)) (K (4 * r + 8 + 1)) q
     → unrounds g K (2 * r) v ≡ t
 unfolding unrounds
 unrounds_two g K n r c q v t en e eq ev =

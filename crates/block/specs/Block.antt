@@ -24,6 +24,13 @@ g s start X = h X (s_list s start)
 unfoldable pub subkey : List ℕ → ℕ → ℕ
 subkey k i = get_or k i 0
 
+-- the g and the subkeys of a schedule
+abbrev pub g_of : Twofish → ℕ → ℕ
+g_of t = g t.s t.start
+
+abbrev pub keys_of : Twofish → ℕ → ℕ
+keys_of t = subkey t.k
+
 -- the four words of 16 bytes, and the 16 bytes of four words
 unfoldable pub words_of : List ℕ → Words
 words_of l = record { a = word_at l 0; b = word_at l 1; c = word_at l 2; d = word_at l 3 }

@@ -41,17 +41,26 @@ unfoldable pub unrounds : (ℕ → ℕ) → (ℕ → ℕ) → ℕ → Words → 
 unrounds g K zero R = R
 unrounds g K (suc r) R = unrounds g K r (unround g (K (2 * r + 8)) (K (2 * r + 9)) R)
 
+-- K_i to K_{i+3} added to four words
+abbrev pub keyed : (ℕ → ℕ) → ℕ → Words → Words
+keyed K i R =
+    record { a = bit_xor R.a (K i); b = bit_xor R.b (K (i + 1)); c = bit_xor R.c (K (i + 2)); d = bit_xor R.d (K (i + 3)) }
+
+-- the halves of four words exchanged
+abbrev pub swapped : Words → Words
+swapped R = record { a = R.c; b = R.d; c = R.a; d = R.b }
+
 -- input whitening: R_i = P_i ⊕ K_i
 unfoldable pub whiten : (ℕ → ℕ) → Words → Words
-whiten K P = record { a = bit_xor P.a (K 0); b = bit_xor P.b (K 1); c = bit_xor P.c (K 2); d = bit_xor P.d (K 3) }
+whiten K P = keyed K 0 P
 
 -- the last swap undone, and output whitening: C_i = R_{(i+2) mod 4} ⊕ K_{i+4}
 unfoldable pub leave : (ℕ → ℕ) → Words → Words
-leave K R = record { a = bit_xor R.c (K 4); b = bit_xor R.d (K 5); c = bit_xor R.a (K 6); d = bit_xor R.b (K 7) }
+leave K R = keyed K 4 (swapped R)
 
 -- the same undone
 unfoldable pub enter : (ℕ → ℕ) → Words → Words
-enter K C = record { a = bit_xor C.c (K 6); b = bit_xor C.d (K 7); c = bit_xor C.a (K 4); d = bit_xor C.b (K 5) }
+enter K C = swapped (keyed K 4 C)
 
 -- the four words of a block enciphered, and deciphered
 unfoldable pub enciphered_words : (ℕ → ℕ) → (ℕ → ℕ) → Words → Words

@@ -77,8 +77,8 @@ fn rs_row(row: &[u8; 8], m: &[u8]) -> u8
     ensures { result ≡ row_times rs_poly (row.now ∷ []) 0 m.now 8 }
 {
     let mut out = 0;
-    for (b, e) in m.iter().zip(row) {
-        out ^= gf_mult(*b, *e, RS_POLY);
+    for (&b, &e) in m.iter().zip(row) {
+        out ^= gf_mult(b, e, RS_POLY);
     }
     out
 }

@@ -21,7 +21,7 @@ static QBOX: [[[u8; 16]; 4]; 2] = [
     ],
 ];
 
-// Which of q0 and q1 each byte of h goes through, a row a byte.
+// Which of q0 and q1 each byte of h goes through, a row a byte: numbers, which index QBOX and which `order` promises.
 static QORD: [[usize; 5]; 4] = [
     [1, 1, 0, 0, 1],
     [0, 1, 1, 0, 0],
@@ -29,21 +29,21 @@ static QORD: [[usize; 5]; 4] = [
     [1, 0, 1, 1, 0],
 ];
 
-// The rows of q0 and q1, for a caller to lend to `sbox`: one copy serves many calls.
+// The paper's rows as a value, such as `sbox` takes.
 pub fn rows() -> [[[u8; 16]; 4]; 2]
     ensures { result ≡ qbox }
 {
     QBOX
 }
 
-// The order of q0 and q1 in h, for a caller to lend.
+// The order of q0 and q1 in h as a value.
 pub fn order() -> [[usize; 5]; 4]
     ensures { result ≡ qord }
 {
     QORD
 }
 
-// Entry n of row j of permutation i, as a nibble.
+// Entry n of row j of permutation i, as a nibble. i is a number, as in `sbox`.
 fn entry(t: &[[[u8; 16]; 4]; 2], i: usize, j: usize, n: u8) -> u8
     requires { (i < 2) × (j < 4) × (n < 16) }
     ensures { (result ≡ row t.now i j n) × (result < 16) }
@@ -59,7 +59,7 @@ fn mix(a: u8, b: u8) -> u8
     a ^ words::ror4(b) ^ words::times8(a)
 }
 
-// q of x over the rows t: q0 where i is even, q1 where it is odd. i is a number, as document 01 has it: rows are indexed by permutation.
+// q of x over the rows t: q0 where i is even, q1 where it is odd. i is a number, since the promise is for any.
 pub fn sbox(t: &[[[u8; 16]; 4]; 2], i: usize, x: u8) -> u8
     ensures { result ≡ q_of t.now i x }
 {
@@ -77,7 +77,8 @@ pub fn sbox(t: &[[[u8; 16]; 4]; 2], i: usize, x: u8) -> u8
     (b4 << 4) + a4
 }
 
-// Byte x in place j at step z of h, through q0 or q1 as the order has it; past its end through q0.
+// Byte x in place j at step z of h, through q0 or q1 as the order has it; past the order's end through q0. Inlined, since its callers know z
+// or j.
 #[inline]
 pub fn permuted_at(z: usize, j: usize, x: u8) -> u8
     ensures { result ≡ q (entry qord j z) x }

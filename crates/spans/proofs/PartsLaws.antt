@@ -1,12 +1,13 @@
 -- Laws of parts of a list and of a list with a part replaced.
-use mathlib.Core.Path.{◌≡◌, sym, ap, ◌∙◌}
-use mathlib.Core.List.{List, [], ◌∷◌, ◌++◌, append_assoc, append-nil}
-use Prim.Native.Nat.{ℕ, zero, suc, ◌+◌, ◌*◌, ◌≤◌}
-use native.Mathlib.Nat.{suc-add, zero-add}
+use mathlib.Core.Path.{◌≡◌, ap, ◌∙◌}
+use mathlib.Core.List.{List, ◌++◌, append_assoc, append-nil}
+use Prim.Native.Nat.{ℕ, suc, ◌+◌, ◌*◌, ◌≤◌}
+use native.Mathlib.Nat.{zero-add}
 use native.Mathlib.Omega.{arith}
 use borrow.Rule.Slice.PartMut.{put_mid}
+use Rattle.std.proofs.lemmas.List.{drop-take}
 use lib.ListN.{length, take, drop, replicate, length-append, length-drop}
-use lib.Seq.{length-take-le, take_at, drop_at, take_all, drop-drop, drop-length, take-nil, take-append-le, take-take}
+use lib.Seq.{length-take-le, take_at, drop_at, take_all, drop-drop, drop-length, take-append-le, take-take}
 use Rattle.spans.specs.Parts.{part, splice}
 
 module _ (o : ℕ) (vs l : List ℕ) (fits : o + length vs ≤ length l) where
@@ -55,11 +56,6 @@ block_whole l h = ap (λ (m : List ℕ). splice 0 m (replicate 16 0)) (take_all 
 pub mid_splice : (o n : ℕ) (vs l : List ℕ) → length vs ≡ n → put_mid o n l vs ≡ splice o vs l
 unfolding splice
 mid_splice o n vs l e = rw (drop-drop n o l, e)
-
-drop-take : (m n : ℕ) (l : List ℕ) → drop m (take (m + n) l) ≡ take n (drop m l)
-drop-take zero n l = rw (zero-add n)
-drop-take (suc m) n [] = rw (suc-add m n) (sym (take-nil n))
-drop-take (suc m) n (x ∷ l) = rw (suc-add m n) (drop-take m n l)
 
 -- a part is within the parts up to it
 pub part-take : (w j : ℕ) (l : List ℕ) → part w j (take (suc j * w) l) ≡ part w j l

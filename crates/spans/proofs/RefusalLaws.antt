@@ -5,16 +5,16 @@ use mathlib.Core.List.{List, [], ◌∷◌, ◌++◌}
 use Prim.Native.Nat.{ℕ}
 use borrow.Author.Tests.{eq-eqb}
 use lib.Dec.{T, eqb}
-use Rattle.spans.specs.Bytes.{cond}
-use Rattle.spans.specs.Refusals.{Refusal, given}
+use Rattle.std.specs.Prelude.{cond}
+use Rattle.spans.specs.Refusals.{Line, given}
 
 -- no condition of the list holds
-abbrev pub NoneHolds : List Refusal → Type 0
+abbrev pub NoneHolds : List Line → Type 0
 NoneHolds [] = Unit {0}
 NoneHolds (r ∷ rs) = (r.holds ≡ false) × NoneHolds rs
 
 -- every number of the list is another than n, as a test
-abbrev pub others : ℕ → List Refusal → Bool
+abbrev pub others : ℕ → List Line → Bool
 others n [] = true
 others n (r ∷ rs) = not (eqb r.number n) && others n rs
 
@@ -23,7 +23,7 @@ both true b h = (tt, h)
 both false b h = absurd h
 
 -- where none holds the list gives way to what follows
-pub given_after : (rs ss : List Refusal) → NoneHolds rs → given (rs ++ ss) ≡ given ss
+pub given_after : (rs ss : List Line) → NoneHolds rs → given (rs ++ ss) ≡ given ss
 unfolding given
 given_after [] ss h = refl
 given_after (r ∷ rs) ss h = rw h.0 (given_after rs ss h.1)
@@ -33,7 +33,7 @@ passed true k m n h e = absurd (subst (λ (b : Bool). T (not b)) (eq-eqb k n e) 
 passed false k m n h e = (refl, e)
 
 -- a number that the list does not have is given only where none of it holds
-pub given_other : (n : ℕ) (rs ss : List Refusal) → T (others n rs) → given (rs ++ ss) ≡ n → NoneHolds rs × (given ss ≡ n)
+pub given_other : (n : ℕ) (rs ss : List Line) → T (others n rs) → given (rs ++ ss) ≡ n → NoneHolds rs × (given ss ≡ n)
 unfolding given
 given_other n [] ss o e = (tt, e)
 given_other n (r ∷ rs) ss o e =

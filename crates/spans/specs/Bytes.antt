@@ -1,4 +1,4 @@
--- Lists of bytes: their xor, a choice between two, and whether they are the same.
+-- Lists of bytes: their xor, and whether they are the same.
 use Rattle.std.specs.Prelude.{◌≡◌, Bool, true, false, ◌&&◌, List, [], ◌∷◌, ℕ, ◌<◌, eqb, length, get_or}
 use Rattle.std.specs.Int.Bits.{bit_xor}
 
@@ -12,11 +12,6 @@ unfoldable pub xor_bytes : List ℕ → List ℕ → List ℕ
 xor_bytes [] bs = []
 xor_bytes (x ∷ xs) [] = []
 xor_bytes (x ∷ xs) (b ∷ bs) = bit_xor x b ∷ xor_bytes xs bs
-
--- the first where the test is true, else the second
-abbrev pub cond : {A : Type 0} → Bool → A → A → A
-cond true a b = a
-cond false a b = b
 
 -- whether two lists are the same
 unfoldable pub same : List ℕ → List ℕ → Bool

@@ -1,19 +1,18 @@
 -- Refusals in their order: the number given is that of the first whose condition holds.
-use Rattle.std.specs.Prelude.{Bool, List, [], ◌∷◌, ℕ, eqb}
-use Rattle.spans.specs.Bytes.{cond}
+use Rattle.std.specs.Prelude.{Bool, List, [], ◌∷◌, ℕ, eqb, cond}
 
--- a refusal: its number, and whether its condition holds
-pub record Refusal : Type 0 where
+-- a line of the table of refusals: a number, and whether its condition holds
+pub record Line : Type 0 where
   pub number : ℕ
   pub holds : Bool
 
 infix 68 ◌when◌
--- a line of the table of refusals: the number, given when the condition holds
-abbrev pub ◌when◌ : ℕ → Bool → Refusal
+-- the number, given when the condition holds
+abbrev pub ◌when◌ : ℕ → Bool → Line
 ◌when◌ n b = record { number = n; holds = b }
 
 -- the number of the first refusal whose condition holds, 0 where none does
-unfoldable pub given : List Refusal → ℕ
+unfoldable pub given : List Line → ℕ
 given [] = 0
 given (r ∷ rs) = cond r.holds r.number (given rs)
 

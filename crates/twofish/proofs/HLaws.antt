@@ -1,24 +1,27 @@
 -- Laws of h: its steps, taken by words that are there or not.
-use mathlib.Core.Path.{◌≡◌, refl, sym, ap₂, ◌∙◌}
+use mathlib.Core.Path.{◌≡◌, refl, sym, ap, ap₂, ◌∙◌}
 use mathlib.Core.Bool.{Bool, true, false}
 use mathlib.Core.List.{List, [], ◌∷◌}
 use Prim.Native.Nat.{ℕ, suc, ◌+◌, ◌-◌, ◌*◌, ◌≤◌, ◌<◌}
 use native.Mathlib.Omega.{arith}
-use lib.Bits.{bit_xor}
 use lib.Dec.{ltb}
-use lib.ListN.{get_or}
+use lib.ListN.{get_or, length, take, drop}
 use borrow.Author.Tests.{ltb-true, ltb-false}
 use Rattle.words.specs.Word.{bytes_of}
-use Rattle.spans.specs.Bytes.{xor_bytes, cond}
+use Rattle.std.specs.Prelude.{cond}
+use Rattle.spans.specs.Bytes.{xor_bytes}
+use Rattle.spans.specs.Parts.{splice}
+use Rattle.spans.proofs.BytesLaws.{xor-length}
+use Rattle.spans.proofs.PartsLaws.{splice_whole}
 use Rattle.field.specs.Matrix.{entry}
 use Rattle.sbox.specs.Q.{qbox, qord, q_of}
 use Rattle.twofish.specs.Lists.{listed, word_at}
 use Rattle.twofish.specs.H.{through, y, h}
-use Rattle.twofish.proofs.ListLaws.{listed_at, bytes_at}
+use Rattle.twofish.proofs.ListLaws.{listed_at, part_bytes}
 
 module _ (f : ℕ → ℕ) (k X i : ℕ) where
   -- word i is there
-  y_taken : (v : List ℕ) → i < k → v ≡ y (listed f k) X (suc i) (k - suc i) → xor_bytes (through (3 - i) v) (bytes_of (f i)) ≡ y (listed f k) X i (k - i)
+  pub y_taken : (v : List ℕ) → i < k → v ≡ y (listed f k) X (suc i) (k - suc i) → xor_bytes (through (3 - i) v) (bytes_of (f i)) ≡ y (listed f k) X i (k - i)
   unfolding y
   y_taken v h e =
       let more : k - i ≡ suc (k - suc i) = omega arith in
@@ -51,10 +54,21 @@ module _ (t : List (List (List ℕ))) (o : List (List ℕ)) (et : t ≡ qbox) (e
   unfolding through entry
   through_law z v a b c d ea eb ec ed = cc
 
+through-length : (z : ℕ) (v : List ℕ) → length (through z v) ≡ 4
+unfolding through
+through-length z v = refl
+
+bytes_of-length : (x : ℕ) → length (bytes_of x) ≡ 4
+unfolding bytes_of
+bytes_of-length x = refl
+
 -- four bytes through their permutations, and four bytes of the key added
-pub added :
-    (z : ℕ) (v p m : List ℕ) (i at : ℕ) → p ≡ through z v → at ≡ 4 * i → ((j : ℕ) → get_or m j 0 < 256)
-    → bit_xor (get_or p 0 0) (get_or m at 0) ∷ bit_xor (get_or p 1 0) (get_or m (at + 1) 0) ∷ bit_xor (get_or p 2 0) (get_or m (at + 2) 0) ∷ bit_xor (get_or p 3 0) (get_or m (at + 3) 0) ∷ []
-    ≡ xor_bytes (through z v) (bytes_of (word_at m i))
-unfolding through xor_bytes
-added z v p m i at e f byte = rw (e, f, bytes_at m i byte)
+pub part_added :
+    (z : ℕ) (v p m : List ℕ) (i n : ℕ) → p ≡ through z v → n ≡ 4 → 4 * i + 4 ≤ length m → ((j : ℕ) → get_or m j 0 < 256)
+    → splice 0 (xor_bytes p (take n (drop (4 * i) m))) p ≡ xor_bytes (through z v) (bytes_of (word_at m i))
+part_added z v p m i n e f room byte =
+    let part : take n (drop (4 * i) m) ≡ bytes_of (word_at m i) = ap (λ (w : ℕ). take w (drop (4 * i) m)) f ∙ part_bytes m i room byte in
+    let four : length p ≡ 4 = ap length e ∙ through-length z v in
+    rw part
+    (splice_whole (xor_bytes p (bytes_of (word_at m i))) p (xor-length p (bytes_of (word_at m i)) ∙ omega (arith, four, bytes_of-length (word_at m i)))
+    ∙ ap (λ (q : List ℕ). xor_bytes q (bytes_of (word_at m i))) e)

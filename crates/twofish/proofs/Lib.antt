@@ -1,3 +1,5 @@
 pub mod ListLaws
 pub mod HLaws
 pub mod ScheduleLaws
+pub mod AnswerLaws
+pub mod Unique

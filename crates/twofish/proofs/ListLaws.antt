@@ -3,14 +3,16 @@ use mathlib.Core.Path.{◌≡◌, refl, sym, ap, ap₂, ◌∙◌}
 use mathlib.Core.List.{List, [], ◌∷◌, ◌++◌, append_assoc, append-nil}
 use mathlib.Core.Logic.{⊎_elim}
 use Prim.Native.Nat.{ℕ, zero, suc, ◌+◌, ◌-◌, ◌*◌, ◌≤◌, ◌<◌}
-use native.Mathlib.Nat.{le_of_suc-le-suc, eq-or-lt_of_le, not-suc-le-zero}
+use native.Mathlib.Nat.{add-zero, le_of_suc-le-suc, eq-or-lt_of_le, not-suc-le-zero}
 use native.Mathlib.Numerals.{add-one}
 use native.Mathlib.Omega.{arith}
-use lib.ListN.{length, get_or, set, take, drop, replicate, length-append, length-set, get_or-append}
-use lib.Seq.{take-suc-set, take_all, take_at, drop-append-add, get_or_at, sets-eq}
+use lib.Dec.{lit<}
+use lib.ListN.{length, get_or, set, take, drop, replicate, length-append, length-set, length-drop, get_or-append}
+use lib.Seq.{length-take-le, get_or-take, get_or-drop, take-suc-set, take_at, drop-append-add, get_or_at, sets-eq}
 use Rattle.words.specs.Word.{bytes_of}
 use Rattle.words.proofs.Bytes.{bytes_word, four}
-use Rattle.spans.specs.Parts.{concat, splice}
+use Rattle.std.specs.List.{concat}
+use Rattle.spans.specs.Parts.{splice}
 use Rattle.twofish.specs.Lists.{listed, word_at}
 
 -- ---- elements
@@ -41,10 +43,6 @@ module _ (f : ℕ → ℕ) (l : List ℕ) where
   unfolding listed
   fill i v e h w = rw add-one (take-suc-set l i v h ∙ ap₂ (λ (p : List ℕ) (x : ℕ). p ++ (x ∷ [])) e w)
 
-  -- all of them
-  pub full : (n : ℕ) → length l ≡ n → take n l ≡ listed f n → l ≡ listed f n
-  full n e t = sym (take_all n l (omega arith)) ∙ t
-
 -- two elements more, at an even place
 pub fill_two :
     (f : ℕ → ℕ) (l : List ℕ) (x v w : ℕ) → take (2 * x) l ≡ listed f (2 * x) → 2 * x + 1 < length l → v ≡ f (2 * x)
@@ -66,13 +64,12 @@ set_four l j a b c d h =
 
 -- ---- parts of one width, one after the other, and zeros up to the end
 pub concat_snoc : (ls : List (List ℕ)) (l : List ℕ) → concat (ls ++ (l ∷ [])) ≡ concat ls ++ l
-unfolding concat
 concat_snoc [] l = append-nil l
 concat_snoc (m ∷ ls) l = ap (λ (r : List ℕ). m ++ r) (concat_snoc ls l) ∙ sym (append_assoc m (concat ls) l)
 
 module _ (f : ℕ → List ℕ) (w : ℕ) (wide : (i : ℕ) → length (f i) ≡ w) where
   pub parts_length : (n : ℕ) → length (concat (listed f n)) ≡ n * w
-  unfolding listed concat
+  unfolding listed
   parts_length zero = omega arith
   parts_length (suc n) =
       ap length (concat_snoc (listed f n) (f n)) ∙ length-append (concat (listed f n)) (f n)
@@ -91,6 +88,16 @@ part_more f i z wide =
     rw (take_at done (replicate (suc (suc (suc (suc z)))) 0) (4 * i) long, past, drop-append-add done (replicate (suc (suc (suc (suc z)))) 0) 4, add-one i, concat_snoc (listed f i) (f i))
     (sym (append_assoc done (f i) (replicate z 0)))
 
+-- the same, where the first parts stand
+pub part_written :
+    (f : ℕ → List ℕ) (i : ℕ) (s b : List ℕ) → ((i : ℕ) → length (f i) ≡ 4) → i < 4
+    → s ≡ concat (listed f i) ++ replicate (16 - 4 * i) 0 → b ≡ f i
+    → splice (4 * i) b s ≡ concat (listed f (i + 1)) ++ replicate (16 - 4 * (i + 1)) 0
+part_written f i s b wide h e eb =
+    let left : 16 - 4 * i ≡ suc (suc (suc (suc (16 - 4 * (i + 1))))) = omega arith in
+    ap₂ (splice (4 * i)) eb (e ∙ ap (λ (n : ℕ). concat (listed f i) ++ replicate n 0) left)
+    ∙ part_more f i (16 - 4 * (i + 1)) wide
+
 -- the same, as four stores
 pub stores_more :
     (f : ℕ → List ℕ) (i : ℕ) (s b : List ℕ) → ((i : ℕ) → length (f i) ≡ 4) → i < 4
@@ -98,11 +105,9 @@ pub stores_more :
     → set (set (set (set s (4 * i) (get_or b 0 0)) (4 * i + 1) (get_or b 1 0)) (4 * i + 2) (get_or b 2 0)) (4 * i + 3) (get_or b 3 0)
     ≡ concat (listed f (i + 1)) ++ replicate (16 - 4 * (i + 1)) 0
 stores_more f i s b wide h e long eb =
-    let left : 16 - 4 * i ≡ suc (suc (suc (suc (16 - 4 * (i + 1))))) = omega arith in
     let all : get_or b 0 0 ∷ get_or b 1 0 ∷ get_or b 2 0 ∷ get_or b 3 0 ∷ [] ≡ f i = sym (four b (ap length eb ∙ wide i)) ∙ eb in
     set_four s (4 * i) (get_or b 0 0) (get_or b 1 0) (get_or b 2 0) (get_or b 3 0) (omega arith)
-    ∙ ap₂ (splice (4 * i)) all (e ∙ ap (λ (n : ℕ). concat (listed f i) ++ replicate n 0) left)
-    ∙ part_more f i (16 - 4 * (i + 1)) wide
+    ∙ part_written f i s _ wide h e all
 
 -- ---- words of bytes
 pub bytes_at :
@@ -110,3 +115,14 @@ pub bytes_at :
     → bytes_of (word_at m i) ≡ get_or m (4 * i) 0 ∷ get_or m (4 * i + 1) 0 ∷ get_or m (4 * i + 2) 0 ∷ get_or m (4 * i + 3) 0 ∷ []
 unfolding word_at
 bytes_at m i byte = bytes_word _ _ _ _ (byte (4 * i)) (byte (4 * i + 1)) (byte (4 * i + 2)) (byte (4 * i + 3))
+
+-- the four bytes where a word stands
+pub part_bytes :
+    (m : List ℕ) (i : ℕ) → 4 * i + 4 ≤ length m → ((j : ℕ) → get_or m j 0 < 256) → take 4 (drop (4 * i) m) ≡ bytes_of (word_at m i)
+part_bytes m i room byte =
+    let part : List ℕ = take 4 (drop (4 * i) m) in
+    let long : length part ≡ 4 = length-take-le 4 (drop (4 * i) m) (omega (arith, length-drop (4 * i) m)) in
+    let at : (j : ℕ) → j < 4 → get_or part j 0 ≡ get_or m (4 * i + j) 0 =
+    λ j h. get_or-take 4 (drop (4 * i) m) j 0 h ∙ get_or-drop (4 * i) m j 0 in
+    four part long
+    ∙ rw (at 0 (lit< tt), at 1 (lit< tt), at 2 (lit< tt), at 3 (lit< tt), add-zero (4 * i)) (sym (bytes_at m i byte))

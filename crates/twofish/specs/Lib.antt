@@ -1,4 +1,5 @@
 pub mod Lists
 pub mod H
 pub mod Schedule
+pub mod Half
 pub mod Answers

@@ -1,14 +1,14 @@
 -- The paper's key schedule, and what set-up hands back for each key.
-use Rattle.std.specs.Prelude.{Bool, not, ◌||◌, List, [], ◌∷◌, ◌++◌, ℕ, ◌+◌, ◌-◌, ◌*◌, ◌/◌, ◌%◌, ◌^◌, eqb, length, take, drop, replicate}
+use Rattle.std.specs.Prelude.{Result, Ok, Err, Bool, not, ◌||◌, List, [], ◌∷◌, ◌++◌, ℕ, ◌+◌, ◌-◌, ◌*◌, ◌/◌, ◌%◌, ◌^◌, eqb, length, take, drop, replicate, cond}
 use Rattle.words.specs.Word.{rol}
-use Rattle.spans.specs.Bytes.{cond}
-use Rattle.spans.specs.Parts.{concat}
+use Rattle.std.specs.List.{concat}
 use Rattle.spans.specs.Refusals.{◌when◌, given}
 use Rattle.field.specs.Matrix.{rs_times}
 use Rattle.twofish.specs.Lists.{listed, word_at}
 use Rattle.twofish.specs.H.{h}
 use Rattle.twofish.specs.declared.Twofish.{Twofish}
-use Rattle.twofish.specs.declared.SetUp.{SetUp}
+use Rattle.twofish.specs.declared.Refusal.{Refusal}
+use Rattle.twofish.specs.Answers.{refusal_number}
 
 -- ---- the paper's lists, for a key m of 8 k bytes
 -- every other word of the key, from word o on: Me = (M_0, M_2, .., M_{2k-2}) for o = 0, and Mo = (M_1, M_3, .., M_{2k-1}) for o = 1
@@ -57,6 +57,17 @@ unfoldable pub refused : Twofish
 refused = record { s = replicate 16 0; k = replicate 40 0; start = 3 }
 
 -- ---- set-up
+-- what set-up hands back: number, count and schedule
+pub record SetUp : Type 0 where
+  pub number : ℕ
+  pub count : ℕ
+  pub schedule : Twofish
+
+-- the same of its outcome: an error stands for its number, count 0 and the refused schedule
+unfoldable pub handed_back : Result Twofish Refusal → SetUp
+handed_back (Ok t) = record { number = 0; count = 0; schedule = t }
+handed_back (Err e) = record { number = refusal_number e; count = 0; schedule = refused }
+
 -- the key lengths that are taken
 unfoldable pub taken : ℕ → Bool
 taken n = eqb n 16 || (eqb n 24 || eqb n 32)

@@ -1,16 +1,59 @@
 // The cipher's type with its constants, and key set-up: h over the key's words, the subkeys and the S bytes.
 #![tactic(auto)]
 
-ghost use Rattle.std.specs.Prelude.{◌≡◌, ◌++◌, ◌+◌, ◌-◌, ◌*◌, ◌<◌, ◌≤◌, ltb, length, replicate};
+ghost use Rattle.std.specs.Prelude.{◌≡◌, ◌++◌, ◌+◌, ◌-◌, ◌*◌, ◌<◌, ◌≤◌, true, false, length, replicate, MatchResult};
 ghost use Rattle.words.specs.Word.{bytes_of};
-ghost use Rattle.spans.specs.Bytes.{xor_bytes, cond};
-ghost use Rattle.spans.specs.Parts.{concat};
-ghost use Rattle.sbox.specs.Q.{qbox, qord};
+ghost use Rattle.spans.specs.Bytes.{Bytes, xor_bytes};
+ghost use Rattle.std.specs.List.{concat};
 ghost use Rattle.twofish.specs.Lists.{listed, word_at};
 ghost use Rattle.twofish.specs.H.{through, h};
-ghost use Rattle.twofish.specs.Schedule.{every_other, s_bytes, k_word, schedule, taken, set_up};
+ghost use Rattle.twofish.specs.Half.{first_of};
+ghost use Rattle.twofish.specs.Schedule.{every_other, s_bytes, k_word, schedule, taken, units, set_up, handed_back};
+ghost use Rattle.twofish.specs.Answers.{refusal_number, answered};
+ghost use Rattle.twofish.specs.declared.Refusal.TheVariants.{KeyLength};
 
-// The schedule: 16 S bytes in key order, 40 subkeys and the start number, which is 0, 1, 2 for 32, 24, 16 key bytes.
+// Why a call is refused, by document 01's number.
+#[derive(Clone, Copy, Debug, PartialEq, Eq)]
+pub enum Refusal {
+    // The key is not 16, 24 or 32 bytes.
+    KeyLength = 1,
+    // The schedule's start is above 2.
+    Start = 2,
+    // The buffer is not a block of 16 bytes.
+    BlockLength = 3,
+}
+
+impl From<Refusal> for u32 {
+    ghost from_gives = { λ refusal n. n ≡ refusal_number refusal };
+
+    // The number that document 01 gives it.
+    fn from(refusal: Refusal) -> u32 {
+        refusal as u32
+    }
+}
+
+// What a C caller is answered: the number of the refusal, or 0, and a count. A struct of numbers, since C has no `Result`.
+#[repr(C)]
+#[derive(Clone, Copy, Debug, PartialEq, Eq)]
+pub struct Answer {
+    pub number: u32,
+    pub count: u32,
+}
+
+impl From<Result<(), Refusal>> for Answer {
+    ghost from_gives = { λ outcome answer. answer ≡ answered outcome };
+
+    fn from(outcome: Result<(), Refusal>) -> Answer {
+        let number = match outcome {
+            Ok(()) => 0,
+            Err(refusal) => refusal.into(),
+        };
+        Answer { number, count: 0 }
+    }
+}
+
+// The schedule: 16 S bytes in key order, 40 subkeys and the start number, which is 0, 1, 2 for 32, 24, 16 key bytes. Start is a number, as
+// document 01 has it: a schedule that came from no key may have any.
 #[derive(Clone, Copy)]
 pub struct Twofish {
     pub s: [u8; 16],
@@ -18,120 +61,124 @@ pub struct Twofish {
     pub start: u32,
 }
 
-// What a call answers: the number of the refusal, or 0, and a count.
-#[repr(C)]
-#[derive(Clone, Copy)]
-pub struct Answer {
-    pub number: u32,
-    pub count: u32,
-}
-
-// What set-up answers: number and count, and the schedule.
-#[derive(Clone, Copy)]
-pub struct SetUp {
-    pub number: u32,
-    pub count: u32,
-    pub schedule: Twofish,
-}
-
-// Four bytes, each through its permutation at step z of h.
-fn through(t: &[[[u8; 16]; 4]; 2], o: &[[usize; 5]; 4], z: usize, y: [u8; 4]) -> [u8; 4]
-    requires { (t.now ≡ qbox) × (o.now ≡ qord) × (z < 5) }
-    ensures { result ≡ through z y }
-{
-    [
-        sbox::sbox(t, o[0][z], y[0]),
-        sbox::sbox(t, o[1][z], y[1]),
-        sbox::sbox(t, o[2][z], y[2]),
-        sbox::sbox(t, o[3][z], y[3]),
-    ]
-}
-
-// The step of h that takes word i of the key's even or odd words in, where there is one.
-fn step(
-    t: &[[[u8; 16]; 4]; 2],
-    o: &[[usize; 5]; 4],
-    y: [u8; 4],
-    m: &[u8],
-    k: usize,
-    offset: usize,
-    i: usize,
-) -> [u8; 4]
-    requires { (t.now ≡ qbox) × (o.now ≡ qord) × (length m.now ≡ 8 * k) × (k ≤ 4) × (offset < 2) × (i < 4) }
-    ensures { result ≡ cond (ltb i k) (xor_bytes (through (3 - i) y) (bytes_of (word_at m.now (2 * i + offset)))) y }
-{
-    if i >= k {
-        return y;
-    }
-    let p = through(t, o, 3 - i, y);
-    let at = 4 * (2 * i + offset);
-    [
-        p[0] ^ m[at],
-        p[1] ^ m[at + 1],
-        p[2] ^ m[at + 2],
-        p[3] ^ m[at + 3],
-    ]
-}
-
-// The paper's h over the even (offset 0) or odd (offset 1) words of a key of 8k bytes.
-fn h(t: &[[[u8; 16]; 4]; 2], o: &[[usize; 5]; 4], x: u32, m: &[u8], k: usize, offset: usize) -> u32
-    requires { (t.now ≡ qbox) × (o.now ≡ qord) × (length m.now ≡ 8 * k) × (k ≤ 4) × (offset < 2) }
-    ensures { result ≡ h x (every_other m.now k offset) }
-{
-    let y4 = words::to_le_bytes(x);
-    let y3 = step(t, o, y4, m, k, offset, 3);
-    let y2 = step(t, o, y3, m, k, offset, 2);
-    let y1 = step(t, o, y2, m, k, offset, 1);
-    let y0 = step(t, o, y1, m, k, offset, 0);
-    field::mds_mult(through(t, o, 4, y0))
-}
-
-// The forty subkeys of a key of 8k bytes.
-fn subkeys(t: &[[[u8; 16]; 4]; 2], o: &[[usize; 5]; 4], key: &[u8], k: usize) -> [u32; 40]
-    requires { (t.now ≡ qbox) × (o.now ≡ qord) × (length key.now ≡ 8 * k) × (k ≤ 4) }
-    ensures { result ≡ listed (k_word key.now k) 40 }
-{
-    let rho: u32 = 0x01010101;
-    let mut ks = [0u32; 40];
-    for x in 0..20 {
-        let a = h(t, o, rho * (2 * x), key, k, 0);
-        let b = words::rotate_left(h(t, o, rho * (2 * x + 1), key, k, 1), 8);
-        let v = words::wrapping_add(a, b);
-        let i = (2 * x) as usize;
-        ks[i] = v;
-        ks[i + 1] = words::rotate_left(words::wrapping_add(v, b), 9);
-    }
-    ks
-}
-
-// The S bytes of a key of 8k bytes, in key order, and zeros after them.
-fn s_bytes(key: &[u8], k: usize) -> [u8; 16]
-    requires { (length key.now ≡ 8 * k) × (k ≤ 4) }
-    ensures { result ≡ concat (listed (s_bytes key.now) k) ++ replicate (16 - 4 * k) 0 }
-{
-    let mut s = [0u8; 16];
-    for i in 0..k {
-        let b = field::rs_mult(&key[8 * i..8 * i + 8]);
-        let j = 4 * i;
-        s[j] = b[0];
-        s[j + 1] = b[1];
-        s[j + 2] = b[2];
-        s[j + 3] = b[3];
-    }
-    s
+// The bytes of a key: 8k of them, k at most 4. That they are bytes is said, since a proof knows it only of those that are read.
+#[derive(Drop)]
+struct Key<'a> {
+    m: &'a [u8],
+    ghost whole: { Bytes (8 * units m.now) m.now },
+    ghost few: { units m.now ≤ 4 },
 }
 
 // The key lengths that are taken: 16, 24 and 32 bytes.
 fn taken(n: usize) -> bool
     ensures { result ≡ taken n }
 {
-    if n == 16 {
-        return true;
+    matches!(n, 16 | 24 | 32)
+}
+
+impl<'a> TryFrom<&'a [u8]> for Key<'a> {
+    type Error = Refusal;
+
+    ghost try_from_gives = { λ m r. MatchResult r (λ key. (taken (length m.now) ≡ true) × (key.m.now ≡ m.now)) (λ e. (taken (length m.now) ≡ false) × (e ≡ KeyLength)) };
+
+    fn try_from(m: &'a [u8]) -> Result<Key<'a>, Refusal> {
+        if taken(m.len()) {
+            Ok(Key { m })
+        } else {
+            Err(Refusal::KeyLength)
+        }
     }
-    if n == 24 {
-        return true;
+}
+
+// Every other word of a key: M_0, M_2, .. or M_1, M_3, ..
+#[derive(Clone, Copy)]
+enum Half {
+    Even,
+    Odd,
+}
+
+impl Half {
+    // The number of its first word.
+    fn first(self) -> usize
+        ensures value { result ≡ first_of self }
+        ensures low { result < 2 }
+    {
+        self as usize
     }
-    n == 32
+}
+
+// Four bytes, each through its permutation at step z of h.
+fn through(z: usize, y: [u8; 4]) -> [u8; 4]
+    ensures { result ≡ through z y }
+{
+    [
+        sbox::permuted_at(z, 0, y[0]),
+        sbox::permuted_at(z, 1, y[1]),
+        sbox::permuted_at(z, 2, y[2]),
+        sbox::permuted_at(z, 3, y[3]),
+    ]
+}
+
+impl Key<'_> {
+    // k, the key's length in units of eight bytes.
+    fn units(&self) -> usize
+        ensures { result ≡ units self.now.m.now }
+    {
+        self.m.len() / 8
+    }
+
+    // The step of h that takes word i of a half in.
+    fn step(&self, y: [u8; 4], half: Half, i: usize) -> [u8; 4]
+        requires { i < units self.now.m.now }
+        ensures { result ≡ xor_bytes (through (3 - i) y) (bytes_of (word_at self.now.m.now (2 * i + first_of half))) }
+    {
+        let mut y = through(3 - i, y);
+        let at = 4 * (2 * i + half.first());
+        spans::xor(&mut y, &self.m[at..at + 4]);
+        y
+    }
+
+    // The paper's h over a half of the words.
+    fn h(&self, x: u32, half: Half) -> u32
+        ensures { result ≡ h x (every_other self.now.m.now (units self.now.m.now) (first_of half)) }
+    {
+        let mut y = words::to_le_bytes(x);
+        for i in (0..self.units()).rev() {
+            // Two steps, since a call's array goes into no variable that the call is lent.
+            let next = self.step(y, half, i);
+            y = next;
+        }
+        field::mds_mult(through(4, y))
+    }
+
+    // The forty subkeys.
+    fn subkeys(&self) -> [u32; 40]
+        ensures { result ≡ listed (k_word self.now.m.now (units self.now.m.now)) 40 }
+    {
+        let rho: u32 = 0x01010101;
+        let mut ks = [0u32; 40];
+        for x in 0..20 {
+            let a = self.h(rho * (2 * x), Half::Even);
+            let b = words::rotate_left(self.h(rho * (2 * x + 1), Half::Odd), 8);
+            let v = words::wrapping_add(a, b);
+            let i = (2 * x) as usize;
+            ks[i] = v;
+            ks[i + 1] = words::rotate_left(words::wrapping_add(v, b), 9);
+        }
+        ks
+    }
+
+    // The S bytes in key order, and zeros after them. i counts since it places both parts.
+    fn s_bytes(&self) -> [u8; 16]
+        ensures { result ≡ concat (listed (s_bytes self.now.m.now) (units self.now.m.now)) ++ replicate (16 - 4 * (units self.now.m.now)) 0 }
+    {
+        let mut s = [0u8; 16];
+        for i in 0..self.units() {
+            let four = field::rs_mult(&self.m[8 * i..8 * i + 8]);
+            s[4 * i..4 * i + 4].copy_from_slice(&four);
+        }
+        s
+    }
 }
 
 impl Twofish {
@@ -142,42 +189,29 @@ impl Twofish {
 
     pub const RECORD: usize = 272;
 
-    // The schedule of a key of 8k bytes.
-    fn key_schedule(key: &[u8], k: usize) -> Twofish
-        requires { (length key.now ≡ 8 * k) × (k ≤ 4) }
-        ensures { result ≡ schedule key.now k }
+    // What stands in for the schedule of a key that is refused: every later call with it is refused by 2.
+    pub const REFUSED: Twofish = Twofish {
+        s: [0; 16],
+        k: [0; 40],
+        start: 3,
+    };
+
+    // The schedule of a key.
+    fn key_schedule(key: &Key) -> Twofish
+        ensures { result ≡ schedule key.now.m.now (units key.now.m.now) }
     {
-        let t = sbox::rows();
-        let o = sbox::order();
-        let k40 = subkeys(&t, &o, key, k);
-        let s = s_bytes(key, k);
         Twofish {
-            s: s,
-            k: k40,
-            start: (4 - k) as u32,
+            s: key.s_bytes(),
+            k: key.subkeys(),
+            start: (4 - key.units()) as u32,
         }
     }
 
-    // Set-up of any bytes as a key: refused by 1 unless its length is taken.
-    pub fn new(key: &[u8]) -> SetUp
-        ensures { result ≡ set_up key.now }
+    // Set-up of any bytes as a key: refused unless their length is taken.
+    pub fn new(key: &[u8]) -> Result<Twofish, Refusal>
+        ensures { handed_back result ≡ set_up key.now }
     {
-        let n = key.len();
-        if taken(n) {
-            return SetUp {
-                number: 0,
-                count: 0,
-                schedule: Twofish::key_schedule(key, n / 8),
-            };
-        }
-        SetUp {
-            number: 1,
-            count: 0,
-            schedule: Twofish {
-                s: [0u8; 16],
-                k: [0u32; 40],
-                start: 3,
-            },
-        }
+        let key = Key::try_from(key)?;
+        Ok(Twofish::key_schedule(&key))
     }
 }

@@ -1,9 +1,9 @@
 -- Rotations of a number of w binary digits: what the shifts and the `or` of the code give, that each undoes the other, and their range.
-use Rattle.std.proofs.Common.{◌≡◌, ℕ, ◌+◌, ◌-◌, ◌*◌, ◌/◌, ◌%◌, ◌^◌, ◌<◌, ◌≤◌, sym, ap, ◌∙◌, subst, ap₂, add-zero, mod-lt, mod-eq_of_lt, add_comm, zero-add, zero-mul, mul-one, div-one, arith, pow_pos, pow-add, shr_lt}
+use Rattle.std.proofs.Common.{◌≡◌, ℕ, zero, suc, ◌+◌, ◌-◌, ◌*◌, ◌/◌, ◌%◌, ◌^◌, ◌<◌, ◌≤◌, sym, ap, ◌∙◌, subst, ap₂, add-zero, mod-lt, mod-eq_of_lt, add_comm, zero-add, zero-mul, mul-one, div-one, arith, pow_pos, pow-add, shr_lt}
 use native.Mathlib.Nat.{mul-mod_left, sub-zero, pow-zero, div-eq_of_lt, mod-one}
 use lib.Arith.{digits_lt}
 use lib.Pow.{mod-pow-add, shl-shr, split, high, low}
-use lib.Bits.{bit_or, or_shifted}
+use lib.Bits.{bit_or, or_shifted, or_comm, or_self}
 use Rattle.words.specs.Word.{rol, ror}
 
 -- the j lower and k upper digits change places
@@ -35,10 +35,9 @@ module _ (w n x : ℕ) (le : n ≤ w) (h : x < 2 ^ w) where
   unfolding rol
   rol-or = turned-or (w - n) n w x (omega arith) h
 
-  -- to the right is to the left by the rest
-  pub rol_rest : rol w (w - n) x ≡ ror w n x
-  unfolding rol ror
-  rol_rest = let rest : w - (w - n) ≡ n = omega arith in rw rest
+  pub ror-or : bit_or (x / 2 ^ n) (x * 2 ^ (w - n) % 2 ^ w) ≡ ror w n x
+  unfolding ror
+  ror-or = or_comm (x / 2 ^ n) (x * 2 ^ (w - n) % 2 ^ w) ∙ turned-or n (w - n) w x (omega arith) h
 
   -- each undoes the other
   pub ror-rol : ror w n (rol w n x) ≡ x
@@ -67,3 +66,22 @@ module _ (w x : ℕ) (h : x < 2 ^ w) where
   pub ror_none : ror w 0 x ≡ x
   unfolding ror
   ror_none = simp (pow-zero, mod-one, div-one, zero-mul, zero-add)
+
+-- a word as the library rotates it: the other shift goes by the rest modulo 32, which matters by no places alone
+module _ (x : ℕ) (h : x < 2 ^ 32) where
+  whole : x * 2 ^ 0 % 2 ^ 32 ≡ x
+  whole = omega arith
+
+  same : x / 2 ^ 0 ≡ x
+  same = omega arith
+
+  rest : (n : ℕ) → suc n < 32 → (32 - suc n) % 32 ≡ 32 - suc n
+  rest n l = omega arith
+
+  pub rol-word : (n : ℕ) → n < 32 → bit_or (x * 2 ^ n % 2 ^ 32) (x / 2 ^ ((32 - n) % 32)) ≡ rol 32 n x
+  rol-word zero l = ap₂ bit_or whole same ∙ or_self x ∙ sym (rol_none 32 x h)
+  rol-word (suc n) l = rw (rest n l) (rol-or 32 (suc n) x (omega arith) h)
+
+  pub ror-word : (n : ℕ) → n < 32 → bit_or (x / 2 ^ n) (x * 2 ^ ((32 - n) % 32) % 2 ^ 32) ≡ ror 32 n x
+  ror-word zero l = ap₂ bit_or same whole ∙ or_self x ∙ sym (ror_none 32 x h)
+  ror-word (suc n) l = rw (rest n l) (ror-or 32 (suc n) x (omega arith) h)

@@ -19,22 +19,18 @@ pub fn times8(a: u8) -> u8
     (a << 3) & 15
 }
 
-// x rotated left by n places, n taken modulo 32, by shifts and `or`.
+// x rotated left by n places, n taken modulo 32.
 pub fn rotate_left(x: u32, n: u32) -> u32
     ensures { result ≡ rol 32 (n % 32) x }
 {
-    let m = n % 32;
-    if m == 0 {
-        return x;
-    }
-    (x << m) | (x >> (32 - m))
+    x.rotate_left(n)
 }
 
-// x rotated right by n places, n taken modulo 32: left by the rest of the 32.
+// x rotated right by n places, n taken modulo 32.
 pub fn rotate_right(x: u32, n: u32) -> u32
     ensures { result ≡ ror 32 (n % 32) x }
 {
-    rotate_left(x, 32 - n % 32)
+    x.rotate_right(n)
 }
 
 // The sum modulo 2^32.
@@ -44,7 +40,7 @@ pub fn wrapping_add(x: u32, y: u32) -> u32
     x.wrapping_add(y)
 }
 
-// Byte y of a word, the lowest first; 0 past the fourth. By a remainder, as document 01 has it.
+// Byte y of a word, the lowest first; 0 past the fourth. By a shift and a remainder, as document 01 has it and the edit wrong_byte takes it.
 pub fn byte_of(x: u32, y: u32) -> u8
     ensures { result ≡ byte_of x y }
 {

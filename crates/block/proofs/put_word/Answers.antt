@@ -1,16 +1,13 @@
--- `block::put_word` meets its contract: four stores, one after the other.
-use Rattle.std.proofs.Common.{ℕ, List, length, get_or, sym, ap, ◌∙◌}
+-- `block::put_word` meets its contract: the bytes of a word in the place of four.
+use Rattle.std.proofs.Common.{ℕ, ◌*◌, List, length, ap, ◌∙◌, arith}
 use Rattle.words.specs.Word.{bytes_of}
-use Rattle.words.proofs.Bytes.{four}
 use Rattle.spans.specs.Parts.{splice}
-use Rattle.twofish.proofs.ListLaws.{set_four}
+use Rattle.spans.proofs.PartsLaws.{mid_splice}
 use Rattle.block.proofs.put_word.Goals as goal
 
 pub returns : goal.returns
 unfolding bytes_of
 returns c =
-    let a = c.args in
-    let b = c.to_le_bytes-b.result in
-    let e = c.to_le_bytes-b.ensures in
-    set_four a.l.now a.j (get_or b 0 0) (get_or b 1 0) (get_or b 2 0) (get_or b 3 0) c.requires
-    ∙ ap (λ (v : List ℕ). splice a.j v a.l.now) (sym (four b (ap length e)) ∙ e)
+    let e = c.copy_from_slice.ensures.after ∙ c.to_le_bytes.ensures in
+    mid_splice (4 * c.args.i) _ _ c.args.b.now (ap length e ∙ omega arith)
+    ∙ ap (λ (l : List ℕ). splice (4 * c.args.i) l c.args.b.now) e

@@ -1,16 +1,15 @@
--- `twofish::taken` meets its contract: three tests in a row.
-use borrow.Author.Tests.{eq-eqb, ne_eqb}
+-- `twofish::taken` meets its contract: one of the three lengths, or none.
+use Rattle.std.proofs.Common.{⊎_elim, rules}
+use borrow.Author.Tests.{ne_eqb}
 use Rattle.twofish.specs.Schedule.{taken}
 use Rattle.twofish.proofs.taken.Goals as goal
 
-pub returns-then-n-eq16 : goal.returns-then-n-eq16
+pub returns-in-16 : goal.returns-in-16
 unfolding taken
-returns-then-n-eq16 c = simp (eq-eqb _ 16 c.if-n-eq16.true)
+returns-in-16 c =
+    ⊎_elim (λ e. rw e) (⊎_elim (λ e. rw e) (λ e. rw e)) c.in-16.is
 
-pub returns-then-n-eq24 : goal.returns-then-n-eq24
+pub returns-in_default : goal.returns-in_default
 unfolding taken
-returns-then-n-eq24 c = simp (ne_eqb _ 16 c.if-n-eq16.false, eq-eqb _ 24 c.if-n-eq24.true)
-
-pub returns : goal.returns
-unfolding taken
-returns c = simp (ne_eqb _ 16 c.if-n-eq16.false, ne_eqb _ 24 c.if-n-eq24.false)
+returns-in_default c =
+    simp (ne_eqb c.args.n 16 (search rules), ne_eqb c.args.n 24 (search rules), ne_eqb c.args.n 32 (search rules))

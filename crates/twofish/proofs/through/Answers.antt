@@ -1,8 +1,12 @@
--- `twofish::through` meets its contract: the lent tables are the paper's.
+-- `twofish::through` meets its contract, byte by byte.
+use Rattle.std.proofs.Common.{refl}
+use Rattle.field.specs.Matrix.{entry}
+use Rattle.sbox.specs.Q.{qbox, qord}
 use Rattle.twofish.proofs.HLaws.{through_law}
 use Rattle.twofish.proofs.through.Goals as goal
 
 pub returns : goal.returns
+unfolding entry
 returns c =
-    through_law c.args.t.now c.args.o.now c.requires.0 c.requires.1 c.args.z c.args.y _ _ _ _
-    c.sbox.ensures c.sbox-2.ensures c.sbox-3.ensures c.sbox-4.ensures
+    through_law qbox qord refl refl c.args.z c.args.y _ _ _ _
+    c.permuted_at.ensures c.permuted_at-2.ensures c.permuted_at-3.ensures c.permuted_at-4.ensures

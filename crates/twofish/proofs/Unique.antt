@@ -1,0 +1,22 @@
+-- Each public function's promise admits one outcome, and the constant for a refused key is what set-up hands back.
+use Rattle.std.proofs.Common.{◌≡◌, refl, sym, ◌∙◌}
+use Rattle.words.proofs.Outcome.{OneResult}
+use Rattle.twofish.specs.Schedule.{refused}
+use Rattle.twofish.specs.declared.TheConstants.Twofish.{REFUSED}
+use Rattle.twofish.proofs.AnswerLaws.{handed_back-injective}
+use Rattle.twofish.proofs.U32FromRefusal.from.Reads as number
+use Rattle.twofish.proofs.AnswerFromResultUnitRefusal.from.Reads as answer_from
+use Rattle.twofish.proofs.Twofish.new.Reads as new
+
+pub number_one : OneResult number.Post
+number_one κ a r r' s s' p p' = p ∙ sym p'
+
+pub answer_from_one : OneResult answer_from.Post
+answer_from_one κ a r r' s s' p p' = p ∙ sym p'
+
+pub new_one : OneResult new.Post
+new_one κ a r r' s s' p p' = handed_back-injective r r' (p ∙ sym p')
+
+pub refused_constant : REFUSED ≡ refused
+unfolding refused
+refused_constant = refl
