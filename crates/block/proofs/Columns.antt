@@ -71,7 +71,7 @@ steps start z lo hi =
       count = omega arith;
     }
 
--- byte j of X over the S bytes s, with the tables that the code was lent
+-- byte j of X over the S bytes s, by any tables equal to the paper's
 module _ (t : List (List (List ℕ))) (o : List (List ℕ)) (et : t ≡ qbox) (eo : o ≡ qord) (s : List ℕ) (start X j : ℕ) (h : j < 4) where
   -- v is the byte before step z
   abbrev pub Before : ℕ → ℕ → Type 0

@@ -122,7 +122,7 @@ impl Cipher {
         v
     }
 
-    // The paper's g: h over the S words, column by column of MDS. The loop is the crate's, with a column at each turn.
+    // The paper's g: h over the S words, column by column of MDS. Apart from `field::mds_mult`, so that it can be held beside the crate's loop.
     fn g_func(&self, x: u32) -> u32
         ensures { result ≡ g_of self.now.t x }
     {

@@ -61,7 +61,7 @@ pub fn mds_column_mult(x: u8, column: usize) -> u32
     }
 }
 
-// MDS times four bytes, as a word.
+// MDS times four bytes, as a word. Apart from the loop of g, which makes a byte at each turn.
 pub fn mds_mult(y: [u8; 4]) -> u32
     ensures { result ≡ word_of (mds_times y) }
 {
@@ -83,7 +83,8 @@ fn rs_row(row: &[u8; 8], m: &[u8]) -> u8
     out
 }
 
-// RS times eight key bytes: four S bytes. Missing bytes are taken as 0, and those past the eighth are not looked at.
+// RS times eight key bytes: four S bytes. Missing bytes are taken as 0, and those past the eighth are not looked at. Row by row: of a `map` over
+// the rows the proof doesn't close.
 pub fn rs_mult(m: &[u8]) -> [u8; 4]
     ensures { result ≡ rs_times m.now }
 {

@@ -36,7 +36,7 @@ pub fn rows() -> [[[u8; 16]; 4]; 2]
     QBOX
 }
 
-// The order of q0 and q1 in h as a value.
+// The order of q0 and q1 in h as a value: a table of its own beside `rows`, with a promise of its own.
 pub fn order() -> [[usize; 5]; 4]
     ensures { result ≡ qord }
 {

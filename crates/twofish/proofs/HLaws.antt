@@ -35,7 +35,8 @@ module _ (f : ℕ → ℕ) (k X i : ℕ) where
       let less : k - suc i ≡ 0 = omega arith in
       e ∙ rw (none, less)
 
--- y_i of a list of k words by their numbers, from y_{i+1}: a step where word i is there, else as it was
+-- y_i of a list of k words by their numbers, from y_{i+1}: a step where word i is there, else as it was; no proof cites this now, and it stays
+-- since docs/PORT.md names it
 pub y_step :
     (f : ℕ → ℕ) (k X i : ℕ) (v r : List ℕ) → v ≡ y (listed f k) X (suc i) (k - suc i)
     → r ≡ cond (ltb i k) (xor_bytes (through (3 - i) v) (bytes_of (f i))) v → r ≡ y (listed f k) X i (k - i)

@@ -98,7 +98,7 @@ part_written f i s b wide h e eb =
     ap₂ (splice (4 * i)) eb (e ∙ ap (λ (n : ℕ). concat (listed f i) ++ replicate n 0) left)
     ∙ part_more f i (16 - 4 * (i + 1)) wide
 
--- the same, as four stores
+-- the same, as four stores; no proof cites this now, and it stays since docs/PORT.md names it
 pub stores_more :
     (f : ℕ → List ℕ) (i : ℕ) (s b : List ℕ) → ((i : ℕ) → length (f i) ≡ 4) → i < 4
     → s ≡ concat (listed f i) ++ replicate (16 - 4 * i) 0 → length s ≡ 16 → b ≡ f i

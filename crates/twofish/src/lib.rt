@@ -52,8 +52,8 @@ impl From<Result<(), Refusal>> for Answer {
     }
 }
 
-// The schedule: 16 S bytes in key order, 40 subkeys and the start number, which is 0, 1, 2 for 32, 24, 16 key bytes. Start is a number, as
-// document 01 has it: a schedule that came from no key may have any.
+// The schedule: 16 S bytes in key order, 40 subkeys and the start number, which is 0, 1, 2 for 32, 24, 16 key bytes. Start is a number beside the
+// S bytes and says how many of them count: document 01 has one record of the three, and one that came from no key may have any start.
 #[derive(Clone, Copy)]
 pub struct Twofish {
     pub s: [u8; 16],
@@ -97,13 +97,12 @@ enum Half {
     Odd,
 }
 
-impl Half {
+impl From<Half> for usize {
+    ghost from_gives = { λ half n. (n ≡ first_of half) × (n < 2) };
+
     // The number of its first word.
-    fn first(self) -> usize
-        ensures value { result ≡ first_of self }
-        ensures low { result < 2 }
-    {
-        self as usize
+    fn from(half: Half) -> usize {
+        half as usize
     }
 }
 
@@ -133,7 +132,7 @@ impl Key<'_> {
         ensures { result ≡ xor_bytes (through (3 - i) y) (bytes_of (word_at self.now.m.now (2 * i + first_of half))) }
     {
         let mut y = through(3 - i, y);
-        let at = 4 * (2 * i + half.first());
+        let at = 4 * (2 * i + usize::from(half));
         spans::xor(&mut y, &self.m[at..at + 4]);
         y
     }
@@ -144,7 +143,7 @@ impl Key<'_> {
     {
         let mut y = words::to_le_bytes(x);
         for i in (0..self.units()).rev() {
-            // Two steps, since a call's array goes into no variable that the call is lent.
+            // In two steps, since the array that a call answers goes into no variable among its arguments.
             let next = self.step(y, half, i);
             y = next;
         }
@@ -168,7 +167,7 @@ impl Key<'_> {
         ks
     }
 
-    // The S bytes in key order, and zeros after them. i counts since it places both parts.
+    // The S bytes in key order, and zeros after them. By a number, which places the eight key bytes and the four S bytes.
     fn s_bytes(&self) -> [u8; 16]
         ensures { result ≡ concat (listed (s_bytes self.now.m.now) (units self.now.m.now)) ++ replicate (16 - 4 * (units self.now.m.now)) 0 }
     {
@@ -182,7 +181,7 @@ impl Key<'_> {
 }
 
 impl Twofish {
-    // Bytes of a block, subkeys of a schedule, and bytes of a sealed record.
+    // For callers: bytes of a block, subkeys of a schedule, and bytes of a sealed record.
     pub const BLOCK: usize = 16;
 
     pub const SUBKEYS: usize = 40;

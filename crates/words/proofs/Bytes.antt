@@ -34,7 +34,7 @@ joined_word a b c d ha hb hc hd =
     ap₂ bit_or one q ∙ or_shifted_r c 16 (b * 2 ^ 8 + a) (omega arith) in
     ap₂ bit_or two r ∙ or_shifted_r d 24 (c * 2 ^ 16 + (b * 2 ^ 8 + a)) (omega arith) ∙ omega arith
 
--- of a list of four bytes
+-- of a list of four bytes; no proof cites this now, and it stays since docs/PORT.md names it
 pub joined_list :
     (l : List ℕ) → length l ≡ 4 → ((i : ℕ) → get_or l i 0 < 256)
     → joined (get_or l 0 0) (get_or l 1 0) (get_or l 2 0) (get_or l 3 0) ≡ word_of l

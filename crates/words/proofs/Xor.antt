@@ -15,6 +15,7 @@ digit_assoc x y z =
     let two : (n : ℕ) → n % 2 < 2 = λ n. mod-lt n (zero-lt-suc 1) in
     eqb→eq _ _ (at₃ 2 2 2 digits_agree tt (x % 2) (y % 2) (z % 2) (two x) (two y) (two z))
 
+-- the library has this too; it stays with its steps, which docs/PORT.md names
 pub xor_assoc : (a b c : ℕ) → bit_xor (bit_xor a b) c ≡ bit_xor a (bit_xor b c)
 xor_assoc a =
     bin_ind (λ (n : ℕ). (b c : ℕ) → bit_xor (bit_xor n b) c ≡ bit_xor n (bit_xor b c)) (λ b c. refl)

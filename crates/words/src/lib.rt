@@ -40,7 +40,8 @@ pub fn wrapping_add(x: u32, y: u32) -> u32
     x.wrapping_add(y)
 }
 
-// Byte y of a word, the lowest first; 0 past the fourth. By a shift and a remainder, as document 01 has it and the edit wrong_byte takes it.
+// Byte y of a word, the lowest first; 0 past the fourth. By a shift and a remainder, as document 01 has
+// it; the edit wrong_byte shifts by 7y.
 pub fn byte_of(x: u32, y: u32) -> u8
     ensures { result ≡ byte_of x y }
 {

@@ -1,4 +1,4 @@
--- `sbox::order` meets its contract: the constant is the paper's order.
+-- `sbox::order` meets its contract: the static is the paper's order.
 use Rattle.std.proofs.Common.{refl}
 use Rattle.sbox.specs.Q.{qord}
 use Rattle.sbox.proofs.order.Goals as goal

@@ -1,4 +1,4 @@
--- `sbox::permuted_at` meets its contract: the constants are the paper's, and past its end the order has zeros.
+-- `sbox::permuted_at` meets its contract: the statics are the paper's, and past its end the order has zeros.
 use Rattle.std.proofs.Common.{◌≡◌, ℕ, zero, suc, ◌≤◌, List, [], length, get_or, sym, ap, ◌∙◌, arith, lit≤}
 use Rattle.std.proofs.Math.ListN.{get_or-eq_default}
 use Rattle.field.specs.Matrix.{entry}
