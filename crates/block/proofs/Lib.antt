@@ -3,3 +3,7 @@ pub mod Bytes16
 pub mod RoundLaws
 pub mod NumberLaws
 pub mod Unique
+pub mod InverseLaws
+pub mod Undone
+pub mod Spare
+pub mod Published

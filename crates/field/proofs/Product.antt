@@ -42,7 +42,7 @@ digit_lt n = mod-lt n (zero-lt-suc 1)
 wider : (n : ℕ) → 2 ^ (8 + suc n) ≡ 2 ^ (8 + n) * 2
 wider n = ap (λ (k : ℕ). 2 ^ k) (add-suc 8 n) ∙ pow-suc 2 (8 + n)
 
-half_lt : (n a : ℕ) → a < 2 ^ suc n → a / 2 < 2 ^ n
+pub half_lt : (n a : ℕ) → a < 2 ^ suc n → a / 2 < 2 ^ n
 half_lt n a h = (div-lt_iff_lt-mul (zero-lt-suc 1)).1 (subst (λ (x : ℕ). a < x) (pow-suc 2 n) h)
 
 -- x times b modulo v

@@ -36,7 +36,7 @@ pub fn gf_mult(mut a: u8, mut b: u8, p: u8) -> u8
     ensures { result ≡ mul (256 + p) a b }
 {
     let mut result: u8 = 0;
-    while a > 0 {
+    for _ in 0..8u32 {
         if a & 1 == 1 {
             result ^= b;
         }

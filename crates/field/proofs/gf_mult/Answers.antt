@@ -1,9 +1,10 @@
 -- `field::gf_mult` meets its contract: a turn takes the lowest digit of a, and doubles b.
-use Rattle.std.proofs.Common.{◌≡◌, ℕ, ◌+◌, ◌/◌, ◌%◌, ◌<◌, ◌≤◌, bit_and, sym, ap, ap₂, ◌∙◌, arith}
+use Rattle.std.proofs.Common.{◌≡◌, ℕ, suc, ◌+◌, ◌-◌, ◌/◌, ◌%◌, ◌^◌, ◌<◌, ◌≤◌, bit_and, sym, subst, ap, ap₂, ◌∙◌, arith}
+use lib.Arith.{lt-one}
 use lib.Bits.{bit_xor, xor_zero_r, and_mask}
 use Rattle.words.proofs.Xor.{xor_assoc}
 use Rattle.field.specs.Field.{scale, mul}
-use Rattle.field.proofs.Product.{twice, mul_step, mul-zero, mul_two}
+use Rattle.field.proofs.Product.{half_lt, twice, mul_step, mul-zero, mul_two}
 use Rattle.field.proofs.gf_mult.Goals as goal
 use Rattle.field.proofs.gf_mult.Goals.{then-a-eq1, else-a-eq1}
 
@@ -30,9 +31,10 @@ turn p a b r t r' d hp ha hb i e₁ e₂ =
     ∙ ap (bit_xor r) (sym (mul_step v lo hi a b ha hb))
     ∙ i
 
-pub loop-a-preserved : goal.loop-a-preserved
-loop-a-preserved c =
-    let l = c.loop-a in
+pub loop-preserved : goal.loop-preserved
+loop-preserved c =
+    let l = c.loop in
+    let more : 8 - l.counter ≡ suc (8 - (l.counter + 1)) = omega arith in
     record {
       whole =
           turn c.args.p l.a l.b l.result _ _ _ (omega arith) l.invariant.left l.invariant.doubled l.invariant.whole
@@ -42,13 +44,15 @@ loop-a-preserved c =
           ])
           c.double-b.ensures;
       left = omega arith;
+      digits = half_lt (8 - (l.counter + 1)) l.a (subst (λ (n : ℕ). l.a < 2 ^ n) more l.invariant.digits);
       doubled = omega arith;
     }
 
 pub returns : goal.returns
 returns c =
-    let l = c.loop-a in
-    let none : l.a ≡ 0 = omega arith in
+    let l = c.loop in
+    let over : 8 - l.counter ≡ 0 = omega arith in
+    let none : l.a ≡ 0 = lt-one (subst (λ (n : ℕ). l.a < 2 ^ n) over l.invariant.digits) in
     let left : mul (256 + c.args.p) l.a l.b ≡ 0 =
     ap (λ (x : ℕ). mul (256 + c.args.p) x l.b) none ∙ mul-zero (256 + c.args.p) l.b in
     sym (xor_zero_r l.result) ∙ ap (bit_xor l.result) (sym left) ∙ l.invariant.whole
