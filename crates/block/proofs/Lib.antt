@@ -7,3 +7,4 @@ pub mod InverseLaws
 pub mod Undone
 pub mod Spare
 pub mod Published
+pub mod ThereAndBack

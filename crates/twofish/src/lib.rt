@@ -214,3 +214,29 @@ impl Twofish {
         Ok(Twofish::key_schedule(&key))
     }
 }
+
+#[cfg(test)]
+mod tests {
+    use super::*;
+
+    #[test]
+    fn key_lengths(rt: HostRuntime) {
+        let key = [0u8; 33];
+        let starts = [
+            (0, None),
+            (15, None),
+            (16, Some(2)),
+            (17, None),
+            (23, None),
+            (24, Some(1)),
+            (25, None),
+            (31, None),
+            (32, Some(0)),
+            (33, None),
+        ];
+        for (n, start) in starts {
+            let taken = key.get(..n).and_then(|key| Twofish::new(key).ok());
+            assert_eq!(rt; taken.map(|t| t.start), start);
+        }
+    }
+}
