@@ -34,11 +34,11 @@ module _ (e d : List ℕ → List ℕ) (t : Twofish) (l : List ℕ) (long : leng
           let again : left d t m ≡ d m = simp (ex, whole) in
           en ∙ again ∙ ap d done ∙ undo (eqb-true _ _ ey)
 
-enciphered-length : (t : Twofish) (l : List ℕ) → length (enciphered t l) ≡ 16
+pub enciphered-length : (t : Twofish) (l : List ℕ) → length (enciphered t l) ≡ 16
 unfolding enciphered block_of bytes_of
 enciphered-length t l = refl
 
-deciphered-length : (t : Twofish) (l : List ℕ) → length (deciphered t l) ≡ 16
+pub deciphered-length : (t : Twofish) (l : List ℕ) → length (deciphered t l) ≡ 16
 unfolding deciphered block_of bytes_of
 deciphered-length t l = refl
 

@@ -2,11 +2,12 @@
 use mathlib.Core.Path.{◌≡◌, refl, subst}
 use mathlib.Core.Bool.{Bool, true, false, not, ◌&&◌}
 use mathlib.Core.List.{List, [], ◌∷◌, ◌++◌}
-use Prim.Native.Nat.{ℕ}
+use Prim.Native.Nat.{ℕ, suc}
+use native.Mathlib.Omega.{arith}
 use borrow.Author.Tests.{eq-eqb}
 use lib.Dec.{T, eqb}
 use Rattle.std.specs.Prelude.{cond}
-use Rattle.spans.specs.Refusals.{Line, given}
+use Rattle.spans.specs.Refusals.{Line, ◌when◌, given}
 
 -- no condition of the list holds
 abbrev pub NoneHolds : List Line → Type 0
@@ -41,3 +42,9 @@ given_other n (r ∷ rs) ss o e =
     let h = passed r.holds r.number (given (rs ++ ss)) n b.0 e in
     let k = given_other n rs ss b.1 h.1 in
     ((h.0, k.0), k.1)
+
+-- nothing is given only where the first condition fails and nothing is given after it
+pub given_none : (n : ℕ) (t : Bool) (rs : List Line) → given (suc n when t ∷ rs) ≡ 0 → (t ≡ false) × (given rs ≡ 0)
+unfolding given
+given_none n true rs e = absurd (omega (arith, e))
+given_none n false rs e = (refl, e)

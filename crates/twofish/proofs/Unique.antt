@@ -6,6 +6,7 @@ use Rattle.twofish.specs.declared.TheConstants.Twofish.{REFUSED}
 use Rattle.twofish.proofs.AnswerLaws.{handed_back-injective}
 use Rattle.twofish.proofs.U32FromRefusal.from.Reads as number
 use Rattle.twofish.proofs.AnswerFromResultUnitRefusal.from.Reads as answer_from
+use Rattle.twofish.proofs.AnswerFromResultU32Refusal.from.Reads as answer_from_count
 use Rattle.twofish.proofs.Twofish.new.Reads as new
 
 pub number_one : OneResult number.Post
@@ -13,6 +14,9 @@ number_one κ a r r' s s' p p' = p ∙ sym p'
 
 pub answer_from_one : OneResult answer_from.Post
 answer_from_one κ a r r' s s' p p' = p ∙ sym p'
+
+pub answer_from_count_one : OneResult answer_from_count.Post
+answer_from_count_one κ a r r' s s' p p' = p ∙ sym p'
 
 pub new_one : OneResult new.Post
 new_one κ a r r' s s' p p' = handed_back-injective r r' (p ∙ sym p')

@@ -9,7 +9,7 @@ ghost use Rattle.twofish.specs.Lists.{listed, word_at};
 ghost use Rattle.twofish.specs.H.{through, h};
 ghost use Rattle.twofish.specs.Half.{first_of};
 ghost use Rattle.twofish.specs.Schedule.{every_other, s_bytes, k_word, schedule, taken, units, set_up, handed_back};
-ghost use Rattle.twofish.specs.Answers.{refusal_number, answered};
+ghost use Rattle.twofish.specs.Answers.{refusal_number, answered, counted};
 ghost use Rattle.twofish.specs.declared.Refusal.TheVariants.{KeyLength};
 
 // Why a call is refused, by document 01's number.
@@ -21,6 +21,14 @@ pub enum Refusal {
     Start = 2,
     // The buffer is not a block of 16 bytes.
     BlockLength = 3,
+    // Pages or banks is 0 or above 256.
+    Geometry = 4,
+    // The image is not as long as its records.
+    ImageLength = 5,
+    // The bank, page or offset lies outside the geometry.
+    Place = 6,
+    // The length is 0, above 256 or past the page's end.
+    Length = 7,
 }
 
 impl From<Refusal> for u32 {
@@ -49,6 +57,20 @@ impl From<Result<(), Refusal>> for Answer {
             Err(refusal) => refusal.into(),
         };
         Answer { number, count: 0 }
+    }
+}
+
+impl From<Result<u32, Refusal>> for Answer {
+    ghost from_gives = { λ outcome answer. answer ≡ counted outcome };
+
+    fn from(outcome: Result<u32, Refusal>) -> Answer {
+        match outcome {
+            Ok(count) => Answer { number: 0, count },
+            Err(refusal) => Answer {
+                number: refusal.into(),
+                count: 0,
+            },
+        }
     }
 }
 

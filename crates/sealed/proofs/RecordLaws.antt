@@ -1,0 +1,44 @@
+-- Laws of a record: how the code lays it out, and its length.
+use Rattle.std.proofs.Common.{◌≡◌, ℕ, zero, suc, ◌+◌, ◌-◌, ◌*◌, ◌≤◌, List, ◌∷◌, ◌++◌, length, take, drop, replicate, set, refl, ap, ap₂, ◌∙◌, arith, length-append, length-drop}
+use Rattle.std.proofs.lemmas.List.{take-replicate, drop-replicate}
+use Rattle.std.proofs.Math.ListN.{length-replicate}
+use Rattle.spans.specs.Parts.{splice}
+use Rattle.spans.specs.Bytes.{xor_bytes}
+use Rattle.sealed.specs.Cbc.{cbc}
+use Rattle.sealed.specs.Record.{place_block, filled, sealed}
+
+-- bank and page at the front of zeros
+pub fronted : (n b p : ℕ) → set (set (replicate (suc (suc n)) 0) 0 b) 1 p ≡ b ∷ p ∷ replicate n 0
+fronted n b p = refl
+
+-- plain bytes after the place block, and zeros after them
+pub laid : (b p : ℕ) (plain : List ℕ) → length plain ≤ 256 → splice 16 plain (b ∷ p ∷ replicate 270 0) ≡ place_block b p ++ filled plain
+unfolding splice place_block filled
+laid b p plain h =
+    let on : 16 + length plain ≡ suc (suc (14 + length plain)) = omega arith in
+    let left : 270 - (14 + length plain) ≡ 256 - length plain = omega arith in
+    ap₂ (λ (f r : List ℕ). b ∷ p ∷ f ++ (plain ++ r)) (take-replicate 14 270 0 (omega arith))
+    (ap (λ (n : ℕ). drop n (b ∷ p ∷ replicate 270 0)) on ∙ drop-replicate (14 + length plain) 270 0 ∙ ap (λ (n : ℕ). replicate n 0) left)
+
+pub laid-length : (b p : ℕ) (plain : List ℕ) → length plain ≤ 256 → length (place_block b p ++ filled plain) ≡ 272
+unfolding place_block filled
+laid-length b p plain h =
+    length-append (b ∷ p ∷ replicate 14 0) (plain ++ replicate (256 - length plain) 0)
+    ∙ omega (arith, length-append plain (replicate (256 - length plain) 0), length-replicate {A = ℕ} (256 - length plain) 0)
+
+-- CBC keeps the length of whole blocks
+pub cbc-length :
+    (E : List ℕ → List ℕ) → ((l : List ℕ) → length (E l) ≡ 16) → (n : ℕ) (c l : List ℕ) → 16 * n ≤ length l → length (cbc E c n l) ≡ length l
+unfolding cbc
+cbc-length E wide zero c l h = refl
+cbc-length E wide (suc n) c l h =
+    let b : List ℕ = E (xor_bytes (take 16 l) c) in
+    length-append b (cbc E b n (drop 16 l))
+    ∙ omega (arith, wide (xor_bytes (take 16 l) c), cbc-length E wide n b (drop 16 l) (omega (arith, length-drop 16 l)), length-drop 16 l)
+
+pub sealed-length :
+    (E : List ℕ → List ℕ) (b p : ℕ) (plain : List ℕ) → ((l : List ℕ) → length (E l) ≡ 16) → length plain ≤ 256 → length (sealed E b p plain) ≡ 272
+unfolding sealed
+sealed-length E b p plain wide h =
+    let long = laid-length b p plain h in
+    cbc-length E wide 17 (replicate 16 0) (place_block b p ++ filled plain) (omega (arith, long)) ∙ long
