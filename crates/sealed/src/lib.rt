@@ -74,29 +74,6 @@ fn seal_judged(
     Ok(())
 }
 
-// A block enciphered where it lies after the chaining block; the next chaining block is the block itself.
-fn chained(t: Twofish, chain: [u8; 16], block: &mut [u8]) -> [u8; 16]
-    requires { (t.start ≤ 2) × (length block.old ≡ 16) }
-    ensures block { block.new ≡ enciphered t (xor_bytes block.old chain) }
-    ensures chain { result ≡ enciphered t (xor_bytes block.old chain) }
-{
-    spans::xor(block, &chain);
-    let _ = block::encipher(t, block);
-    spans::block(block)
-}
-
-// Whole blocks enciphered where they lie, in CBC after the chaining block.
-fn chain_blocks(t: Twofish, chain: [u8; 16], blocks: &mut [u8])
-    requires { t.start ≤ 2 }
-    ensures { blocks.new ≡ cbc (enciphered t) chain (length blocks.old / 16) blocks.old }
-{
-    let mut last = chain;
-    for i in 0..blocks.len() / 16 {
-        let next = chained(t, last, &mut blocks[16 * i..16 * i + 16]);
-        last = next;
-    }
-}
-
 // The place block and the page that plain bytes make, laid into a record.
 fn lay(bank: u8, page: u8, plain: &[u8], blocks: &mut [u8])
     requires { (length blocks.old ≡ 272) × (length plain.now ≤ 256) }
@@ -109,13 +86,44 @@ fn lay(bank: u8, page: u8, plain: &[u8], blocks: &mut [u8])
     blocks[16..n].copy_from_slice(plain);
 }
 
-// A record sealed.
-fn seal_record(t: Twofish, bank: u8, page: u8, plain: &[u8], blocks: &mut [u8])
-    requires { (t.start ≤ 2) × (length blocks.old ≡ 272) × (length plain.now ≤ 256) }
-    ensures { blocks.new ≡ sealed (enciphered t) bank page plain.now }
-{
-    lay(bank, page, plain, blocks);
-    chain_blocks(t, [0; 16], blocks);
+// A schedule that seal has accepted.
+#[derive(Drop)]
+struct Accepted {
+    t: Twofish,
+    ghost start: { t.start ≤ 2 },
+}
+
+impl Accepted {
+    // A block enciphered where it lies after the chaining block; the next chaining block is the block itself.
+    fn chained(&self, chain: [u8; 16], block: &mut [u8]) -> [u8; 16]
+        requires { length block.old ≡ 16 }
+        ensures block { block.new ≡ enciphered self.now.t (xor_bytes block.old chain) }
+        ensures chain { result ≡ enciphered self.now.t (xor_bytes block.old chain) }
+    {
+        spans::xor(block, &chain);
+        let _ = block::encipher(self.t, block);
+        spans::block(block)
+    }
+
+    // Whole blocks enciphered where they lie, in CBC after the chaining block.
+    fn chain_blocks(&self, chain: [u8; 16], blocks: &mut [u8])
+        ensures { blocks.new ≡ cbc (enciphered self.now.t) chain (length blocks.old / 16) blocks.old }
+    {
+        let mut last = chain;
+        for i in 0..blocks.len() / 16 {
+            let next = self.chained(last, &mut blocks[16 * i..16 * i + 16]);
+            last = next;
+        }
+    }
+
+    // A record sealed.
+    fn seal_record(&self, bank: u8, page: u8, plain: &[u8], blocks: &mut [u8])
+        requires { (length blocks.old ≡ 272) × (length plain.now ≤ 256) }
+        ensures { blocks.new ≡ sealed (enciphered self.now.t) bank page plain.now }
+    {
+        lay(bank, page, plain, blocks);
+        self.chain_blocks([0; 16], blocks);
+    }
 }
 
 // A page sealed into its slot: 1 to 256 plain bytes, a short page filled at its end. The old record is not looked at, and a refusal leaves every byte.
@@ -133,6 +141,7 @@ pub fn seal(
     seal_judged(t, geometry, image.len(), bank, page, plain.len())?;
     let at = Twofish::RECORD * (bank as usize * geometry.pages as usize + page as usize);
     let blocks = &mut image[at..at + Twofish::RECORD];
-    seal_record(t, bank as u8, page as u8, plain, blocks);
+    let cipher = Accepted { t };
+    cipher.seal_record(bank as u8, page as u8, plain, blocks);
     Ok(BLOCKS)
 }

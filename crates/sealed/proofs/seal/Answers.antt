@@ -43,7 +43,6 @@ seal_record-requires c =
     let f = fits_in k in
     let at : ℕ = 272 * (a.bank * a.geometry.pages + a.page) in
     let wide : at + 272 - at ≡ 272 = omega arith in (
-      k.start,
       length-take-le (at + 272 - at) (drop at a.image.now) (omega (arith, length-drop at a.image.now, f.room, wide)) ∙ wide,
       k.fits,
     )
@@ -61,3 +60,6 @@ returns-clause-image c =
     rw (sym c.in_ok-seal_judged.ensures)
     (mid_splice at _ _ a.image.now (ap length c.seal_record.ensures ∙ sealed-length _ _ _ _ (enciphered-length a.t) (takes _ _ _ _ _ _ (sym c.in_ok-seal_judged.ensures)).fits ∙ wide)
     ∙ ap (λ (r : List ℕ). splice at r a.image.now) c.seal_record.ensures)
+
+pub invariant_of-cipher : goal.invariant_of-cipher
+invariant_of-cipher c = record { start = (takes _ _ _ _ _ _ (sym c.in_ok-seal_judged.ensures)).start }
