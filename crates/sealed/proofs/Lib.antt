@@ -4,3 +4,4 @@ pub mod ImageLaws
 pub mod RecordLaws
 pub mod OutcomeLaws
 pub mod Unique
+pub mod OpenLaws
