@@ -5,3 +5,5 @@ pub mod RecordLaws
 pub mod OutcomeLaws
 pub mod Unique
 pub mod OpenLaws
+pub mod MiddleLaws
+pub mod ReadLaws

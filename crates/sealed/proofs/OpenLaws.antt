@@ -122,7 +122,7 @@ one-page t b p page other s hb hp long long' bytes bytes' e =
     sym (filled-page page long) ∙ ap (drop 16) both ∙ filled-page other long'
 
 -- CBC deciphered keeps the length of whole blocks
-uncbc-length :
+pub uncbc-length :
     (t : Twofish) (n : ℕ) (c l : List ℕ) → length c ≡ 16 → 16 * n ≤ length l → length (uncbc (deciphered t) c n l) ≡ length l
 unfolding uncbc
 uncbc-length t zero c l hc h = refl

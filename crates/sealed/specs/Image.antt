@@ -1,10 +1,11 @@
--- The image: the records of a geometry in slot order, and what seal does to it.
-use Rattle.std.specs.Prelude.{Bool, not, ◌&&◌, List, [], ◌∷◌, ℕ, ◌+◌, ◌*◌, eqb, ltb, leb}
+-- The image: the records of a geometry in slot order, what seal does to it, and what read gives.
+use Rattle.std.specs.Prelude.{Bool, not, ◌&&◌, List, [], ◌∷◌, ◌++◌, ℕ, ◌+◌, ◌*◌, ◌/◌, ◌%◌, eqb, ltb, leb, length, take, drop}
 use Rattle.spans.specs.Parts.{splice}
-use Rattle.spans.specs.Refusals.{◌when◌, given}
+use Rattle.spans.specs.Refusals.{Line, ◌when◌, given}
 use Rattle.twofish.specs.declared.Twofish.{Twofish}
 use Rattle.sealed.specs.declared.Geometry.{Geometry}
-use Rattle.sealed.specs.Record.{sealed}
+use Rattle.block.specs.Block.{deciphered}
+use Rattle.sealed.specs.Record.{sealed, looked, page_of}
 
 -- from 1 to 256
 unfoldable pub up_to_256 : ℕ → Bool
@@ -26,13 +27,39 @@ reached G bank page = ltb bank G.banks && ltb page G.pages
 unfoldable pub slot : Geometry → ℕ → ℕ → ℕ
 slot G bank page = bank * G.pages + page
 
--- the refusals of seal, in document 01's order
+-- whether a bank and an offset into it are there
+unfoldable pub offset_reached : Geometry → ℕ → ℕ → Bool
+offset_reached G bank offset = ltb bank G.banks && ltb offset (256 * G.pages)
+
+-- whether n bytes from an offset on are 1 to 256, all inside one page
+unfoldable pub within_page : ℕ → ℕ → Bool
+within_page offset n = up_to_256 n && leb (offset % 256 + n) 256
+
+-- the record of a page of a bank
+unfoldable pub record_at : Geometry → ℕ → ℕ → List ℕ → List ℕ
+record_at G bank page image = take 272 (drop (272 * slot G bank page) image)
+
+-- the refusals of a call on an image in document 01's order, up to its look at a record: by whether its place is there, and whether its
+-- length fits
+unfoldable pub refusals : Twofish → Geometry → ℕ → Bool → Bool → List Line
+refusals t G long placed fits =
+    2 when ltb 2 t.start ∷ 4 when not (in_range G) ∷ 5 when not (eqb long (image_length G)) ∷ 6 when not placed ∷ 7 when not fits ∷ []
+
+-- of seal, which does not look at the record
 unfoldable pub seal_number : Twofish → Geometry → ℕ → ℕ → ℕ → ℕ → ℕ
-seal_number t G long bank page n =
+seal_number t G long bank page n = given (refusals t G long (reached G bank page) (up_to_256 n))
+
+-- of read
+unfoldable pub read_number : Twofish → Geometry → List ℕ → ℕ → ℕ → ℕ → ℕ
+read_number t G image bank offset n =
     given
-    (2 when ltb 2 t.start ∷ 4 when not (in_range G) ∷ 5 when not (eqb long (image_length G))
-    ∷ 6 when not (reached G bank page) ∷ 7 when not (up_to_256 n) ∷ [])
+    (refusals t G (length image) (offset_reached G bank offset) (within_page offset n)
+    ++ 8 when not (looked (deciphered t) bank (offset / 256) (record_at G bank (offset / 256) image)) ∷ [])
 
 -- an image with the page of a bank sealed into its slot
 unfoldable pub sealed_in : (List ℕ → List ℕ) → Geometry → ℕ → ℕ → List ℕ → List ℕ → List ℕ
 sealed_in E G bank page plain image = splice (272 * slot G bank page) (sealed E bank page plain) image
+
+-- the n bytes from an offset on, as the page's record holds them
+unfoldable pub read_from : (List ℕ → List ℕ) → Geometry → ℕ → ℕ → ℕ → List ℕ → List ℕ
+read_from D G bank offset n image = take n (drop (offset % 256) (page_of D (record_at G bank (offset / 256) image)))

@@ -1,6 +1,9 @@
--- The sealed record of a page: CBC over the place block and the page.
-use Rattle.std.specs.Prelude.{List, ◌∷◌, ◌++◌, ℕ, ◌-◌, length, replicate}
-use Rattle.sealed.specs.Cbc.{cbc}
+-- The sealed record of a page: CBC over the place block and the page, whose record it is, and the page that it holds.
+use Rattle.std.specs.Prelude.{Bool, ◌&&◌, List, ◌∷◌, ◌++◌, ℕ, ◌-◌, eqb, leb, length, take, drop, replicate}
+use lib.Pointwise.{pointwise}
+use Rattle.twofish.specs.declared.Twofish.{Twofish}
+use Rattle.block.specs.Block.{deciphered}
+use Rattle.sealed.specs.Cbc.{cbc, uncbc}
 
 -- the place block: the bank, the page, and zeros
 unfoldable pub place_block : ℕ → ℕ → List ℕ
@@ -17,3 +20,15 @@ filled plain = plain ++ replicate (256 - length plain) fill_byte
 -- the record: the 17 blocks of place and page in CBC after a zero first chaining block
 unfoldable pub sealed : (List ℕ → List ℕ) → ℕ → ℕ → List ℕ → List ℕ
 sealed E bank page plain = cbc E (replicate 16 0) 17 (place_block bank page ++ filled plain)
+
+-- whether a record is that of a place: its first block deciphers to the place block
+unfoldable pub looked : (List ℕ → List ℕ) → ℕ → ℕ → List ℕ → Bool
+looked D bank page bytes = pointwise eqb (D (take 16 bytes)) (place_block bank page)
+
+-- the same of any bytes under any schedule: under one that is refused, and of any other length than a record's, none is
+unfoldable pub look_answer : Twofish → ℕ → ℕ → List ℕ → Bool
+look_answer t bank page bytes = leb t.start 2 && (eqb (length bytes) 272 && looked (deciphered t) bank page bytes)
+
+-- the page of a record: what its blocks after the first decipher to
+unfoldable pub page_of : (List ℕ → List ℕ) → List ℕ → List ℕ
+page_of D bytes = drop 16 (uncbc D (replicate 16 0) 17 bytes)

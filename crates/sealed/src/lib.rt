@@ -1,14 +1,14 @@
-// The sealed image: its geometry, its records, and seal.
+// The sealed image: its geometry, its records, seal, read, and the look at a record.
 #![tactic(auto)]
 
-ghost use Rattle.std.specs.Prelude.{◌≡◌, ◌++◌, ◌+◌, ◌*◌, ◌/◌, ◌<◌, ◌≤◌, length};
+ghost use Rattle.std.specs.Prelude.{◌≡◌, ◌++◌, ◌+◌, ◌*◌, ◌/◌, ◌<◌, ◌≤◌, length, take, drop, true};
 ghost use Rattle.spans.specs.Bytes.{xor_bytes};
-ghost use Rattle.spans.specs.Refusals.{leaves};
+ghost use Rattle.spans.specs.Refusals.{given, leaves};
 ghost use Rattle.twofish.specs.Answers.{answer, outcome_number, counted};
-ghost use Rattle.block.specs.Block.{enciphered};
-ghost use Rattle.sealed.specs.Cbc.{cbc};
-ghost use Rattle.sealed.specs.Record.{place_block, filled, sealed};
-ghost use Rattle.sealed.specs.Image.{in_range, reached, up_to_256, seal_number, sealed_in};
+ghost use Rattle.block.specs.Block.{enciphered, deciphered};
+ghost use Rattle.sealed.specs.Cbc.{cbc, uncbc};
+ghost use Rattle.sealed.specs.Record.{place_block, filled, sealed, looked, look_answer, page_of};
+ghost use Rattle.sealed.specs.Image.{in_range, reached, offset_reached, slot, up_to_256, within_page, refusals, seal_number, sealed_in, read_number, read_from};
 
 use twofish::{Refusal, Twofish};
 
@@ -29,6 +29,13 @@ fn up_to_256(n: usize) -> bool
     0 < n && n <= 256
 }
 
+// Whether n bytes from an offset on are 1 to 256, all inside one page.
+fn within_page(offset: u32, n: usize) -> bool
+    ensures { result ≡ within_page offset n }
+{
+    up_to_256(n) && offset as usize % 256 + n <= 256
+}
+
 impl Geometry {
     // Whether there are from 1 to 256 of both.
     fn in_range(self) -> bool
@@ -43,18 +50,32 @@ impl Geometry {
     {
         bank < self.banks && page < self.pages
     }
+
+    // Whether a bank and an offset into it are there.
+    fn offset_reached(self, bank: u32, offset: u32) -> bool
+        ensures { result ≡ offset_reached self bank offset }
+    {
+        bank < self.banks && (offset as usize) < 256 * self.pages as usize
+    }
+
+    // Where the record of a page begins in the image.
+    fn record_start(self, bank: u32, page: u32) -> usize
+        requires { (in_range self ≡ true) × (reached self bank page ≡ true) }
+        ensures { result ≡ 272 * slot self bank page }
+    {
+        Twofish::RECORD * (bank as usize * self.pages as usize + page as usize)
+    }
 }
 
-// Whether seal takes a call, or else the first refusal in order.
-fn seal_judged(
+// Whether a call on an image is taken up to its look at a record, or else the first refusal in order.
+fn judged(
     t: Twofish,
     geometry: Geometry,
     long: usize,
-    bank: u32,
-    page: u32,
-    n: usize,
+    placed: bool,
+    fits: bool,
 ) -> Result<(), Refusal>
-    ensures { outcome_number result ≡ seal_number t geometry long bank page n }
+    ensures { outcome_number result ≡ given (refusals t geometry long placed fits) }
 {
     if t.start > 2 {
         return Err(Refusal::Start);
@@ -65,10 +86,10 @@ fn seal_judged(
     if long != Twofish::RECORD * (geometry.pages as usize * geometry.banks as usize) {
         return Err(Refusal::ImageLength);
     }
-    if !geometry.reached(bank, page) {
+    if !placed {
         return Err(Refusal::Place);
     }
-    if !up_to_256(n) {
+    if !fits {
         return Err(Refusal::Length);
     }
     Ok(())
@@ -86,7 +107,7 @@ fn lay(bank: u8, page: u8, plain: &[u8], blocks: &mut [u8])
     blocks[16..n].copy_from_slice(plain);
 }
 
-// A schedule that seal has accepted.
+// A schedule that a call has accepted.
 #[derive(Drop)]
 struct Accepted {
     t: Twofish,
@@ -124,6 +145,53 @@ impl Accepted {
         lay(bank, page, plain, blocks);
         self.chain_blocks([0; 16], blocks);
     }
+
+    // A block deciphered where it lies and xored with the chaining block; the next chaining block is the block as it was.
+    fn unchained(&self, chain: [u8; 16], block: &mut [u8]) -> [u8; 16]
+        requires { length block.old ≡ 16 }
+        ensures block { block.new ≡ xor_bytes (deciphered self.now.t block.old) chain }
+        ensures chain { result ≡ block.old }
+    {
+        let next = spans::block(block);
+        let _ = block::decipher(self.t, block);
+        spans::xor(block, &chain);
+        next
+    }
+
+    // Whole blocks deciphered where they lie, in CBC after the chaining block.
+    fn unchain_blocks(&self, chain: [u8; 16], blocks: &mut [u8])
+        ensures { blocks.new ≡ uncbc (deciphered self.now.t) chain (length blocks.old / 16) blocks.old }
+    {
+        let mut previous = chain;
+        for i in 0..blocks.len() / 16 {
+            let next = self.unchained(previous, &mut blocks[16 * i..16 * i + 16]);
+            previous = next;
+        }
+    }
+
+    // Whether a record is that of a place.
+    fn looked(&self, bank: u32, page: u32, blocks: &[u8]) -> bool
+        requires { length blocks.now ≡ 272 }
+        ensures { result ≡ looked (deciphered self.now.t) bank page blocks.now }
+    {
+        let mut first = spans::block(blocks);
+        let _ = block::decipher(self.t, &mut first);
+        first[0] as u32 == bank && first[1] as u32 == page && first[2..] == [0; 14]
+    }
+
+    // The bytes of a record's page from p on. Only the blocks that hold them are deciphered.
+    fn open(&self, blocks: &[u8], p: usize, out: &mut [u8])
+        requires { (length blocks.now ≡ 272) × (0 < length out.old) × (p + length out.old ≤ 256) }
+        ensures { out.new ≡ take (length out.old) (drop p (page_of (deciphered self.now.t) blocks.now)) }
+    {
+        let first = p / 16;
+        let long = 16 * ((p % 16 + out.len() + 15) / 16);
+        let at = 16 + 16 * first;
+        let mut page = [0; 256];
+        page[..long].copy_from_slice(&blocks[at..at + long]);
+        self.unchain_blocks(spans::block(&blocks[16 * first..at]), &mut page[..long]);
+        out.copy_from_slice(&page[p % 16..p % 16 + out.len()]);
+    }
 }
 
 // A page sealed into its slot: 1 to 256 plain bytes, a short page filled at its end. The old record is not looked at, and a refusal leaves every byte.
@@ -138,10 +206,53 @@ pub fn seal(
     ensures outcome { counted result ≡ answer (seal_number t geometry (length image.old) bank page (length plain.now)) 17 }
     ensures image { image.new ≡ leaves (seal_number t geometry (length image.old) bank page (length plain.now)) (sealed_in (enciphered t) geometry bank page plain.now image.old) image.old }
 {
-    seal_judged(t, geometry, image.len(), bank, page, plain.len())?;
-    let at = Twofish::RECORD * (bank as usize * geometry.pages as usize + page as usize);
+    let placed = geometry.reached(bank, page);
+    judged(t, geometry, image.len(), placed, up_to_256(plain.len()))?;
+    let at = geometry.record_start(bank, page);
     let blocks = &mut image[at..at + Twofish::RECORD];
     let cipher = Accepted { t };
     cipher.seal_record(bank as u8, page as u8, plain, blocks);
     Ok(BLOCKS)
+}
+
+// Whether 272 bytes are the record of a bank's page: their first block deciphers to the place block. No bytes are under a schedule that is refused, nor of any other length.
+pub fn look(t: Twofish, bank: u32, page: u32, bytes: &[u8]) -> bool
+    ensures { result ≡ look_answer t bank page bytes.now }
+{
+    if t.start > 2 || bytes.len() != Twofish::RECORD {
+        return false;
+    }
+    let cipher = Accepted { t };
+    cipher.looked(bank, page, bytes)
+}
+
+// The plain bytes of a bank from an offset on, 1 to 256 and all inside one page, into the whole of out. A refusal leaves every byte.
+pub fn read(
+    t: Twofish,
+    geometry: Geometry,
+    image: &[u8],
+    bank: u32,
+    offset: u32,
+    out: &mut [u8],
+) -> Result<u32, Refusal>
+    ensures outcome { counted result ≡ answer (read_number t geometry image.now bank offset (length out.old)) 0 }
+    ensures out { out.new ≡ leaves (read_number t geometry image.now bank offset (length out.old)) (read_from (deciphered t) geometry bank offset (length out.old) image.now) out.old }
+{
+    let placed = geometry.offset_reached(bank, offset);
+    judged(
+        t,
+        geometry,
+        image.len(),
+        placed,
+        within_page(offset, out.len()),
+    )?;
+    let page = offset / 256;
+    let at = geometry.record_start(bank, page);
+    let blocks = &image[at..at + Twofish::RECORD];
+    let cipher = Accepted { t };
+    if !cipher.looked(bank, page, blocks) {
+        return Err(Refusal::Record);
+    }
+    cipher.open(blocks, offset as usize % 256, out);
+    Ok(0)
 }

@@ -48,3 +48,15 @@ pub given_none : (n : ℕ) (t : Bool) (rs : List Line) → given (suc n when t �
 unfolding given
 given_none n true rs e = absurd (omega (arith, e))
 given_none n false rs e = (refl, e)
+
+-- what is given stays given, whatever follows
+pub given_kept : (rs ss : List Line) → (given rs ≡ 0 → ⊥) → given (rs ++ ss) ≡ given rs
+unfolding given
+given_kept [] ss n = absurd (n refl)
+given_kept (r ∷ rs) ss n = by r.holds n (given_kept rs ss)
+  where
+    by :
+        (b : Bool) → (cond b r.number (given rs) ≡ 0 → ⊥) → ((given rs ≡ 0 → ⊥) → given (rs ++ ss) ≡ given rs)
+        → cond b r.number (given (rs ++ ss)) ≡ cond b r.number (given rs)
+    by true m k = refl
+    by false m k = k m

@@ -6,7 +6,7 @@ use Rattle.twofish.specs.Schedule.{SetUp, handed_back}
 use Rattle.twofish.specs.declared.Answer.{Answer}
 use Rattle.twofish.specs.declared.Twofish.{Twofish}
 use Rattle.twofish.specs.declared.Refusal.{Refusal}
-use Rattle.twofish.specs.declared.Refusal.TheVariants.{KeyLength, Start, BlockLength, Geometry, ImageLength, Place, Length}
+use Rattle.twofish.specs.declared.Refusal.TheVariants.{KeyLength, Start, BlockLength, Geometry, ImageLength, Place, Length, Record}
 
 -- the refusal with a number
 numbered : ℕ → Refusal
@@ -17,7 +17,8 @@ numbered (suc (suc (suc zero))) = BlockLength
 numbered (suc (suc (suc (suc zero)))) = Geometry
 numbered (suc (suc (suc (suc (suc zero))))) = ImageLength
 numbered (suc (suc (suc (suc (suc (suc zero)))))) = Place
-numbered (suc (suc (suc (suc (suc (suc (suc n))))))) = Length
+numbered (suc (suc (suc (suc (suc (suc (suc zero))))))) = Length
+numbered (suc (suc (suc (suc (suc (suc (suc (suc n)))))))) = Record
 
 numbered-number : (e : Refusal) → numbered (refusal_number e) ≡ e
 unfolding numbered
@@ -28,12 +29,13 @@ numbered-number Geometry = refl
 numbered-number ImageLength = refl
 numbered-number Place = refl
 numbered-number Length = refl
+numbered-number Record = refl
 
 -- no two refusals have one number, and none has 0
 refusal_number-injective : (d e : Refusal) → refusal_number d ≡ refusal_number e → d ≡ e
 refusal_number-injective d e h = sym (numbered-number d) ∙ ap numbered h ∙ numbered-number e
 
-never_done : (e : Refusal) → 0 ≡ refusal_number e → ⊥
+pub never_done : (e : Refusal) → 0 ≡ refusal_number e → ⊥
 never_done KeyLength h = omega (arith, h)
 never_done Start h = omega (arith, h)
 never_done BlockLength h = omega (arith, h)
@@ -41,6 +43,7 @@ never_done Geometry h = omega (arith, h)
 never_done ImageLength h = omega (arith, h)
 never_done Place h = omega (arith, h)
 never_done Length h = omega (arith, h)
+never_done Record h = omega (arith, h)
 
 -- outcomes that are answered alike are the same
 pub answered-injective : (r s : Result (Unit {0}) Refusal) → answered r ≡ answered s → r ≡ s

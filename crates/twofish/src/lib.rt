@@ -29,6 +29,8 @@ pub enum Refusal {
     Place = 6,
     // The length is 0, above 256 or past the page's end.
     Length = 7,
+    // The record's first block does not decipher to the place block.
+    Record = 8,
 }
 
 impl From<Refusal> for u32 {
