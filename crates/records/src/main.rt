@@ -1,0 +1,70 @@
+// Seals and reads pages of an image of 64 pages in each of four banks, and shows each call's answer with what the image held before and after.
+#![tactic(auto)]
+
+use sealed::Geometry;
+use std::io;
+use twofish::{Answer, Twofish};
+
+const GEOMETRY: Geometry = Geometry {
+    pages: 64,
+    banks: 4,
+};
+
+// The bytes of the image.
+const LONG: usize = 69632;
+
+// Where the first byte that is not zero lies, and how many there are.
+fn used(image: &[u8]) -> (Option<usize>, usize) {
+    (
+        image.iter().position(|b| *b != 0),
+        image.iter().filter(|b| **b != 0).count(),
+    )
+}
+
+// A line for a call: its number and its count.
+fn show(rt: HostRuntime, call: &str, answer: Answer) -> io::Result<()> {
+    println!(rt; "{call}: number {}, count {}", answer.number, answer.count)
+}
+
+fn main(rt: HostRuntime) -> io::Result<()> {
+    let key = [7u8; 32];
+    let t = Twofish::new(&key).unwrap_or(Twofish::REFUSED);
+    let mut image = [0u8; LONG];
+    let plain = [0x5au8; 100];
+
+    let (_, before) = used(&image);
+    println!(rt; "before: {before} bytes are not zero")?;
+    let sealed = sealed::seal(t, GEOMETRY, &mut image, 3, 2, &plain);
+    show(rt, "seal of 100 bytes in bank 3, page 2", sealed.into())?;
+    let (first, _) = used(&image);
+    println!(rt;
+        "the first byte that is not zero: {}",
+        first.unwrap_or(LONG)
+    )?;
+    let (_, beyond) = used(&image[53040..]);
+    println!(rt; "after byte 53040: {beyond} bytes are not zero")?;
+
+    let mut out = [1u8; 4];
+    let read = sealed::read(t, GEOMETRY, &image, 3, 0x0262, &mut out);
+    show(rt, "read of 4 bytes at 0x0262 in bank 3", read.into())?;
+    println!(rt; "{:?}", out)?;
+    let read = sealed::read(t, GEOMETRY, &image, 0, 0x0262, &mut out);
+    show(rt, "the same in bank 0", read.into())?;
+    println!(rt; "{:?}", out)?;
+    let mut one = [1u8; 1];
+    let read = sealed::read(t, GEOMETRY, &image, 3, 0x02ff, &mut one);
+    show(rt, "read of 1 byte at 0x02ff in bank 3", read.into())?;
+    println!(rt; "{:?}", one)?;
+    let mut two = [1u8; 2];
+    let read = sealed::read(t, GEOMETRY, &image, 3, 0x02ff, &mut two);
+    show(rt, "read of 2 bytes at 0x02ff in bank 3", read.into())?;
+    println!(rt; "{:?}", two)?;
+    println!(rt;
+        "look at that record, as bank 3, page 2: {}",
+        sealed::look(t, 3, 2, &image[52768..53040])
+    )?;
+    println!(rt;
+        "as bank 2, page 3: {}",
+        sealed::look(t, 2, 3, &image[52768..53040])
+    )
+}
