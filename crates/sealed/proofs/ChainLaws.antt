@@ -1,12 +1,25 @@
 -- A loop that goes through a list block by block, each block made from itself and a chaining block: what is done and the rest make the whole.
-use Rattle.std.proofs.Common.{◌≡◌, ℕ, suc, ◌+◌, ◌-◌, ◌*◌, ◌<◌, ◌≤◌, List, ◌++◌, length, take, drop, sym, ap, ap₂, ◌∙◌, arith, append_assoc}
+use Rattle.std.proofs.Common.{◌≡◌, ℕ, zero, suc, ◌+◌, ◌-◌, ◌*◌, ◌<◌, ◌≤◌, List, ◌++◌, length, take, drop, sym, ap, ap₂, ◌∙◌, arith, append_assoc, length-append, length-drop}
 use Rattle.std.proofs.lemmas.List.{drop-drop, take-append-drop}
+use lib.Seq.{length-take-le}
 use Rattle.spans.specs.Parts.{splice}
 use Rattle.spans.proofs.PartsLaws.{take-splice, drop-splice}
 
 -- F goes through n blocks of a list after a chaining block: `out` is what becomes of a block, `next` the next chaining block
 module _ (F : List ℕ → ℕ → List ℕ → List ℕ) (out next : List ℕ → List ℕ → List ℕ) (none : (c l : List ℕ) → F c 0 l ≡ l)
     (more : (c l : List ℕ) (n : ℕ) → F c (suc n) l ≡ out (take 16 l) c ++ F (next (take 16 l) c) n (drop 16 l)) where
+  -- whole blocks keep their length, where each gives a block and a chaining block
+  pub through-length :
+      ((p c : List ℕ) → length p ≡ 16 → length c ≡ 16 → (length (out p c) ≡ 16) × (length (next p c) ≡ 16))
+      → (n : ℕ) (c l : List ℕ) → length c ≡ 16 → 16 * n ≤ length l → length (F c n l) ≡ length l
+  through-length wide zero c l hc h = ap length (none c l)
+  through-length wide (suc n) c l hc h =
+      let p : List ℕ = take 16 l in
+      let w = wide p c (length-take-le 16 l (omega (arith, h))) hc in
+      ap length (more c l n)
+      ∙ length-append (out p c) (F (next p c) n (drop 16 l))
+      ∙ omega (arith, w.0, through-length wide n (next p c) (drop 16 l) w.1 (omega (arith, h, length-drop 16 l)), length-drop 16 l)
+
   -- after i of n turns
   abbrev pub Through : List ℕ → List ℕ → ℕ → ℕ → List ℕ → Type 0
   Through l c n i w = take (16 * i) l ++ F c (n - i) (drop (16 * i) l) ≡ w

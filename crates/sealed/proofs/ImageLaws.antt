@@ -1,14 +1,16 @@
 -- Laws of a geometry in range, of its images and its slots.
-use Rattle.std.proofs.Common.{◌≡◌, ℕ, suc, ◌+◌, ◌*◌, ◌<◌, ◌≤◌, Bool, true, false, not, ◌&&◌, refl, sym, ap₂, ◌∙◌, arith}
+use Rattle.std.proofs.Common.{◌≡◌, ℕ, suc, ◌+◌, ◌*◌, ◌<◌, ◌≤◌, ◌-◌, List, length, take, drop, length-drop, Bool, true, false, ◌&&◌, refl, sym, ap₂, ◌∙◌, arith}
 use Rattle.std.proofs.lemmas.Bool.{leb-true}
-use borrow.Author.Tests.{ltb-true, ltb-false, eqb-true}
+use borrow.Author.Tests.{ltb-true, ltb-false, eqb-true, not-false}
+use lib.Seq.{length-take-le}
 use native.Mathlib.Nat.{mul-le-mul_right, suc-mul, mul_comm}
 use Rattle.sealed.specs.declared.Geometry.{Geometry}
 use Rattle.spans.specs.Refusals.{given}
-use Rattle.sealed.specs.Image.{up_to_256, in_range, reached, slot, image_length, refusals, seal_number}
+use Rattle.sealed.specs.Image.{up_to_256, in_range, reached, slot, image_length, record_at, refusals, seal_number}
 use Rattle.spans.proofs.RefusalLaws.{given_none}
 use Rattle.twofish.specs.declared.Twofish.{Twofish}
 
+-- two tests passed
 pub both : (a b : Bool) → (a && b) ≡ true → (a ≡ true) × (b ≡ true)
 both true b e = (refl, e)
 both false b e = absurd (let z : ◌≡◌ {A = ℕ} 0 1 = cc in omega arith)
@@ -34,10 +36,6 @@ pub record Taken (t : Twofish) (G : Geometry) (long : ℕ) (placed fits : Bool) 
   pub at_place : placed ≡ true
   pub fitting : fits ≡ true
 
-off : (b : Bool) → not b ≡ false → b ≡ true
-off true e = refl
-off false e = absurd (let z : ◌≡◌ {A = ℕ} 0 1 = cc in omega arith)
-
 pub taken : (t : Twofish) (G : Geometry) (long : ℕ) (placed fits : Bool) → given (refusals t G long placed fits) ≡ 0 → Taken t G long placed fits
 unfolding refusals
 taken t G long placed fits e =
@@ -48,10 +46,10 @@ taken t G long placed fits e =
     let f = given_none 6 _ _ d.1 in
     record {
       start = ltb-false _ _ a.0;
-      geometry = off _ b.0;
-      whole = eqb-true _ _ (off _ c.0);
-      at_place = off _ d.0;
-      fitting = off _ f.0;
+      geometry = not-false _ b.0;
+      whole = eqb-true _ _ (not-false _ c.0);
+      at_place = not-false _ d.0;
+      fitting = not-false _ f.0;
     }
 
 -- a place that is there
@@ -102,6 +100,17 @@ unfolding slot image_length
 slot-room G bank page hb hp =
     let m = mul-le-mul_right {m = suc bank} {n = G.banks} G.pages hb in
     omega (arith, m, suc-mul bank G.pages, mul_comm G.pages G.banks, hp)
+
+-- the record that a slice of the image is
+module _ (G : Geometry) (bank page at : ℕ) (image : List ℕ) (e : at ≡ 272 * slot G bank page) where
+  pub record_slice : take (at + 272 - at) (drop at image) ≡ record_at G bank page image
+  unfolding record_at
+  record_slice = let wide : at + 272 - at ≡ 272 = omega arith in ap₂ (λ (j k : ℕ). take j (drop k image)) wide e
+
+  pub slice-length : 272 * slot G bank page + 272 ≤ length image → length (take (at + 272 - at) (drop at image)) ≡ 272
+  slice-length h =
+      let wide : at + 272 - at ≡ 272 = omega arith in
+      length-take-le (at + 272 - at) (drop at image) (omega (arith, h, e, length-drop at image)) ∙ wide
 
 -- what the code's numbers need, where a call is taken
 pub record Fits_in (G : Geometry) (long bank page n : ℕ) : Type 0 where

@@ -1,7 +1,7 @@
 -- Opening undoes sealing: CBC deciphered is what was enciphered, over any block function that is undone, and so is a record.
 use Rattle.std.proofs.Common.{◌≡◌, ℕ, zero, suc, ◌-◌, ◌*◌, ◌<◌, ◌≤◌, List, ◌∷◌, ◌++◌, length, take, drop, replicate, refl, sym, ap, ap₂, ◌∙◌, arith, lit<, mod-lt}
-use Rattle.std.proofs.lemmas.List.{take-append-drop, length-drop, length-append, append-nil}
-use lib.Seq.{take_at, drop_at, length-take-le}
+use Rattle.std.proofs.lemmas.List.{take-append-drop, length-drop, append-nil}
+use lib.Seq.{take_at, drop_at}
 use Rattle.words.specs.Word.{byte_of, bytes_of}
 use Rattle.spans.specs.Bytes.{Bytes, xor_bytes}
 use Rattle.spans.proofs.BytesLaws.{AllBytes, AllBytes-append, AllBytes-drop, AllBytes-replicate, Bytes-take, Bytes-xor_bytes, Bytes-replicate, xor_twice, xor_zeros}
@@ -12,6 +12,7 @@ use Rattle.block.proofs.ThereAndBack.{enciphered-length, deciphered-length}
 use Rattle.sealed.specs.Cbc.{cbc, uncbc}
 use Rattle.sealed.specs.Record.{place_block, filled, sealed}
 use Rattle.sealed.proofs.RecordLaws.{laid-length}
+use Rattle.sealed.proofs.ChainLaws.{through-length}
 use Rattle.sealed.proofs.Blocks.{xored-length}
 
 module _ (E D : List ℕ → List ℕ) (wide : (l : List ℕ) → Bytes 16 (E l)) (undo : (l : List ℕ) → Bytes 16 l → D (E l) ≡ l) where
@@ -125,14 +126,9 @@ one-page t b p page other s hb hp long long' bytes bytes' e =
 pub uncbc-length :
     (t : Twofish) (n : ℕ) (c l : List ℕ) → length c ≡ 16 → 16 * n ≤ length l → length (uncbc (deciphered t) c n l) ≡ length l
 unfolding uncbc
-uncbc-length t zero c l hc h = refl
-uncbc-length t (suc n) c l hc h =
-    let p : List ℕ = take 16 l in
-    let q : List ℕ = xor_bytes (deciphered t p) c in
-    let one : length q ≡ 16 = xored-length (deciphered t p) c (deciphered-length t p) hc in
-    let hp : length p ≡ 16 = length-take-le 16 l (omega arith) in
-    length-append q (uncbc (deciphered t) p n (drop 16 l))
-    ∙ omega (arith, one, uncbc-length t n p (drop 16 l) hp (omega (arith, length-drop 16 l)), length-drop 16 l)
+uncbc-length t n c l hc h =
+    through-length (uncbc (deciphered t)) (λ p b. xor_bytes (deciphered t p) b) (λ p b. p) (λ b m. refl) (λ b m k. refl)
+    (λ p b hp hb. (xored-length (deciphered t p) b (deciphered-length t p) hb, hp)) n c l hc h
 
 -- the first block of what a record opens to
 first : (t : Twofish) (r : List ℕ) → take 16 (uncbc (deciphered t) (replicate 16 0) 17 r) ≡ xor_bytes (deciphered t (take 16 r)) (replicate 16 0)

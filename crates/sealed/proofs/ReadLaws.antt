@@ -1,8 +1,7 @@
 -- Laws of a call that reads within a page: what its numbers need, and its refusals by what its tests and its look say.
-use Rattle.std.proofs.Common.{◌≡◌, ℕ, ◌+◌, ◌*◌, ◌-◌, ◌/◌, ◌%◌, ◌<◌, ◌≤◌, Bool, true, false, not, ◌&&◌, List, [], ◌∷◌, ◌++◌, length, take, drop, length-drop, sym, ap, ap₂, ◌∙◌, arith}
+use Rattle.std.proofs.Common.{◌≡◌, ℕ, ◌+◌, ◌*◌, ◌-◌, ◌/◌, ◌%◌, ◌<◌, ◌≤◌, Bool, true, false, not, ◌&&◌, List, [], ◌∷◌, ◌++◌, length, take, drop, sym, ap, ap₂, ◌∙◌, arith}
 use Rattle.std.proofs.lemmas.Bool.{leb-true}
 use borrow.Author.Tests.{lt-ltb, ltb-true}
-use lib.Seq.{length-take-le}
 use Rattle.spans.specs.Refusals.{Line, ◌when◌, given}
 use Rattle.spans.proofs.RefusalLaws.{NoneHolds, given_after, given_kept, given_other}
 use Rattle.twofish.specs.declared.Twofish.{Twofish}
@@ -10,7 +9,7 @@ use Rattle.block.specs.Block.{deciphered}
 use Rattle.sealed.specs.declared.Geometry.{Geometry}
 use Rattle.sealed.specs.Record.{looked}
 use Rattle.sealed.specs.Image.{in_range, reached, offset_reached, within_page, slot, image_length, record_at, refusals, read_number}
-use Rattle.sealed.proofs.ImageLaws.{both, up_to_256-true, few_records, slot-room, taken}
+use Rattle.sealed.proofs.ImageLaws.{both, record_slice, up_to_256-true, few_records, slot-room, taken}
 
 -- what holds of a call that is taken up to its look
 pub record Opens (t : Twofish) (G : Geometry) (long bank offset n : ℕ) : Type 0 where
@@ -21,17 +20,6 @@ pub record Opens (t : Twofish) (G : Geometry) (long bank offset n : ℕ) : Type 
   pub small : long ≤ 17825792
   pub some : 0 < n
   pub inside : offset % 256 + n ≤ 256
-
--- the record that a slice of the image is
-module _ (G : Geometry) (bank page at : ℕ) (image : List ℕ) (e : at ≡ 272 * slot G bank page) where
-  pub record_slice : take (at + 272 - at) (drop at image) ≡ record_at G bank page image
-  unfolding record_at
-  record_slice = let wide : at + 272 - at ≡ 272 = omega arith in ap₂ (λ (j k : ℕ). take j (drop k image)) wide e
-
-  pub slice-length : 272 * slot G bank page + 272 ≤ length image → length (take (at + 272 - at) (drop at image)) ≡ 272
-  slice-length h =
-      let wide : at + 272 - at ≡ 272 = omega arith in
-      length-take-le (at + 272 - at) (drop at image) (omega (arith, h, e, length-drop at image)) ∙ wide
 
 module _ (t : Twofish) (G : Geometry) (image : List ℕ) (bank offset n : ℕ) {placed fits : Bool} (p : placed ≡ offset_reached G bank offset)
     (f : fits ≡ within_page offset n) where

@@ -1,5 +1,5 @@
 -- Laws of a record: how the code lays it out and looks at it, and its length.
-use Rattle.std.proofs.Common.{◌≡◌, ℕ, zero, suc, ◌+◌, ◌-◌, ◌*◌, ◌≤◌, List, [], ◌∷◌, ◌++◌, length, take, drop, replicate, set, get_or, ◌&&◌, eqb, refl, sym, ap, ap₂, ◌∙◌, arith, length-append, length-drop}
+use Rattle.std.proofs.Common.{◌≡◌, ℕ, suc, ◌+◌, ◌-◌, ◌≤◌, List, [], ◌∷◌, ◌++◌, length, take, drop, replicate, set, get_or, ◌&&◌, eqb, refl, sym, ap, ap₂, ◌∙◌, arith, length-append}
 use Rattle.std.proofs.lemmas.List.{take-replicate, drop-replicate}
 use Rattle.std.proofs.Math.ListN.{length-replicate}
 use lib.Pointwise.{pointwise}
@@ -7,6 +7,7 @@ use lib.Seq.{take_all}
 use Rattle.spans.specs.Parts.{splice}
 use Rattle.spans.specs.Bytes.{xor_bytes}
 use Rattle.sealed.specs.Cbc.{cbc}
+use Rattle.sealed.proofs.ChainLaws.{through-length}
 use Rattle.sealed.specs.Record.{place_block, filled, sealed, looked}
 
 -- bank and page at the front of zeros
@@ -42,19 +43,11 @@ looked_split D b p r w e long = ap (λ (m : List ℕ). pointwise eqb m (b ∷ p 
     split (x ∷ []) h = absurd (omega (arith, h))
     split (x ∷ y ∷ m) h = ap (λ (k : List ℕ). eqb x b && (eqb y p && pointwise eqb k (replicate 14 0))) (sym (take_all 14 m (omega (arith, h))))
 
--- CBC keeps the length of whole blocks
-pub cbc-length :
-    (E : List ℕ → List ℕ) → ((l : List ℕ) → length (E l) ≡ 16) → (n : ℕ) (c l : List ℕ) → 16 * n ≤ length l → length (cbc E c n l) ≡ length l
-unfolding cbc
-cbc-length E wide zero c l h = refl
-cbc-length E wide (suc n) c l h =
-    let b : List ℕ = E (xor_bytes (take 16 l) c) in
-    length-append b (cbc E b n (drop 16 l))
-    ∙ omega (arith, wide (xor_bytes (take 16 l) c), cbc-length E wide n b (drop 16 l) (omega (arith, length-drop 16 l)), length-drop 16 l)
-
 pub sealed-length :
     (E : List ℕ → List ℕ) (b p : ℕ) (plain : List ℕ) → ((l : List ℕ) → length (E l) ≡ 16) → length plain ≤ 256 → length (sealed E b p plain) ≡ 272
-unfolding sealed
+unfolding sealed cbc
 sealed-length E b p plain wide h =
     let long = laid-length b p plain h in
-    cbc-length E wide 17 (replicate 16 0) (place_block b p ++ filled plain) (omega (arith, long)) ∙ long
+    through-length (cbc E) (λ l c. E (xor_bytes l c)) (λ l c. E (xor_bytes l c)) (λ c l. refl) (λ c l n. refl) (λ l c hl hc. (wide (xor_bytes l c), wide (xor_bytes l c)))
+    17 (replicate 16 0) (place_block b p ++ filled plain) refl (omega (arith, long))
+    ∙ long

@@ -45,11 +45,11 @@ unfoldable pub refusals : Twofish → Geometry → ℕ → Bool → Bool → Lis
 refusals t G long placed fits =
     2 when ltb 2 t.start ∷ 4 when not (in_range G) ∷ 5 when not (eqb long (image_length G)) ∷ 6 when not placed ∷ 7 when not fits ∷ []
 
--- of seal, which does not look at the record
+-- the number of seal's refusal, which does not look at the record
 unfoldable pub seal_number : Twofish → Geometry → ℕ → ℕ → ℕ → ℕ → ℕ
 seal_number t G long bank page n = given (refusals t G long (reached G bank page) (up_to_256 n))
 
--- of read
+-- the number of read's refusal: after those, a record that is not of its place
 unfoldable pub read_number : Twofish → Geometry → List ℕ → ℕ → ℕ → ℕ → ℕ
 read_number t G image bank offset n =
     given

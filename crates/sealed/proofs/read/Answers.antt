@@ -7,7 +7,8 @@ use Rattle.twofish.proofs.AnswerLaws.{never_done}
 use Rattle.block.specs.Block.{deciphered}
 use Rattle.sealed.specs.Record.{page_of}
 use Rattle.sealed.specs.Image.{read_from}
-use Rattle.sealed.proofs.ReadLaws.{record_slice, slice-length, read_refused, read_unseen, read_seen, opens}
+use Rattle.sealed.proofs.ImageLaws.{record_slice, slice-length}
+use Rattle.sealed.proofs.ReadLaws.{read_refused, read_unseen, read_seen, opens}
 use Rattle.sealed.proofs.OutcomeLaws.{refused_answer, refused_leaves}
 use Rattle.sealed.proofs.read.Goals as goal
 

@@ -1,7 +1,6 @@
 -- `sealed::seal` meets its contract: the first refusal in order, or the record of the page in its slot.
-use Rattle.std.proofs.Common.{◌≡◌, ℕ, ◌+◌, ◌-◌, List, length, drop, length-drop, sym, ap, ap₂, ◌∙◌, arith}
+use Rattle.std.proofs.Common.{◌≡◌, ℕ, ◌+◌, ◌-◌, List, length, sym, ap, ap₂, ◌∙◌, arith}
 use Rattle.std.proofs.lemmas.Result.{err_from_is_err_and}
-use lib.Seq.{length-take-le}
 use Rattle.spans.specs.Parts.{splice}
 use Rattle.spans.specs.Refusals.{leaves}
 use Rattle.spans.proofs.PartsLaws.{mid_splice}
@@ -9,7 +8,7 @@ use Rattle.twofish.specs.Answers.{answer}
 use Rattle.block.specs.Block.{enciphered}
 use Rattle.block.proofs.ThereAndBack.{enciphered-length}
 use Rattle.sealed.specs.Image.{sealed_in}
-use Rattle.sealed.proofs.ImageLaws.{seals, seal_takes, fits_in}
+use Rattle.sealed.proofs.ImageLaws.{seals, seal_takes, fits_in, slice-length}
 use Rattle.sealed.proofs.RecordLaws.{sealed-length}
 use Rattle.sealed.proofs.OutcomeLaws.{refused_answer, refused_leaves}
 use Rattle.sealed.proofs.seal.Goals as goal
@@ -46,12 +45,7 @@ pub seal_record-requires : goal.seal_record-requires
 seal_record-requires c =
     let a = c.args in
     let k = seal_takes _ _ _ _ _ _ c.reached-placed.ensures c.up_to_256.ensures c.in_ok-judged.ensures in
-    let f = fits_in k in
-    let at : ℕ = c.record_start-at.result in
-    let wide : at + 272 - at ≡ 272 = omega arith in (
-      length-take-le (at + 272 - at) (drop at a.image.now) (omega (arith, length-drop at a.image.now, f.room, wide, c.record_start-at.ensures)) ∙ wide,
-      k.fits,
-    )
+    (slice-length a.geometry a.bank a.page c.record_start-at.result a.image.now c.record_start-at.ensures (fits_in k).room, k.fits)
 
 pub returns-clause-outcome : goal.returns-clause-outcome
 unfolding answer
