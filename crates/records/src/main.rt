@@ -1,4 +1,4 @@
-// Seals and reads pages of an image of 64 pages in each of four banks, and shows each call's answer with what the image held before and after.
+// Seals, reads and patches pages of an image of 64 pages in each of four banks, and shows each call's answer with what the image held before and after.
 #![tactic(auto)]
 
 use sealed::Geometry;
@@ -19,6 +19,33 @@ fn used(image: &[u8]) -> (Option<usize>, usize) {
         image.iter().position(|b| *b != 0),
         image.iter().filter(|b| **b != 0).count(),
     )
+}
+
+// Where the first and the last byte lie that differ, if any does.
+fn changed(before: &[u8], after: &[u8]) -> Option<(usize, usize)> {
+    let first = before.iter().zip(after).position(|(b, a)| b != a)?;
+    let last = before.iter().zip(after).rposition(|(b, a)| b != a)?;
+    Some((first, last))
+}
+
+// A patch in bank 3 with its answer, and which bytes of the image it changed.
+fn patch(
+    rt: HostRuntime,
+    t: Twofish,
+    image: &mut [u8; LONG],
+    offset: u32,
+    bytes: &[u8],
+) -> io::Result<()> {
+    let before = *image;
+    let answer: Answer = sealed::patch(t, GEOMETRY, image, 3, offset, bytes).into();
+    println!(rt;
+        "patch of {bytes:?} at {offset:#06x} in bank 3: number {}, count {}",
+        answer.number, answer.count
+    )?;
+    match changed(&before, image) {
+        Some((first, last)) => println!(rt; "changed bytes: from {first} to {last}"),
+        None => println!(rt; "changed bytes: none"),
+    }
 }
 
 // A line for a call: its number and its count.
@@ -66,5 +93,15 @@ fn main(rt: HostRuntime) -> io::Result<()> {
     println!(rt;
         "as bank 2, page 3: {}",
         sealed::look(t, 2, 3, &image[52768..53040])
-    )
+    )?;
+
+    patch(rt, t, &mut image, 0x0237, &[0xa5])?;
+    let mut out = [1u8; 4];
+    let read = sealed::read(t, GEOMETRY, &image, 3, 0x0236, &mut out);
+    show(rt, "read of 4 bytes at 0x0236 in bank 3", read.into())?;
+    println!(rt; "{:?}", out)?;
+    patch(rt, t, &mut image, 0x0237, &[0xa5])?;
+    patch(rt, t, &mut image, 0x02ff, &[0x11])?;
+    patch(rt, t, &mut image, 0x02ff, &[0x22, 0x33])?;
+    patch(rt, t, &mut image, 0x0337, &[0xa5])
 }

@@ -6,4 +6,6 @@ pub mod OutcomeLaws
 pub mod Unique
 pub mod OpenLaws
 pub mod MiddleLaws
-pub mod ReadLaws
+pub mod AccessLaws
+pub mod PatchLaws
+pub mod PatchFacts

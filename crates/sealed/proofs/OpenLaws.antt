@@ -10,7 +10,7 @@ use Rattle.block.specs.Block.{block_of, enciphered, deciphered, Schedule}
 use Rattle.block.proofs.Undone.{undone, redone}
 use Rattle.block.proofs.ThereAndBack.{enciphered-length, deciphered-length}
 use Rattle.sealed.specs.Cbc.{cbc, uncbc}
-use Rattle.sealed.specs.Record.{place_block, filled, sealed}
+use Rattle.sealed.specs.Record.{place_block, filled, sealed, page_of}
 use Rattle.sealed.proofs.RecordLaws.{laid-length}
 use Rattle.sealed.proofs.ChainLaws.{through-length}
 use Rattle.sealed.proofs.Blocks.{xored-length}
@@ -72,7 +72,7 @@ enciphered-bytes t l =
       byte = AllBytes-append _ _ (bytes_of-bytes _) (AllBytes-append _ _ (bytes_of-bytes _) (AllBytes-append _ _ (bytes_of-bytes _) (bytes_of-bytes _)));
     }
 
-deciphered-bytes : (t : Twofish) (l : List ℕ) → Bytes 16 (deciphered t l)
+pub deciphered-bytes : (t : Twofish) (l : List ℕ) → Bytes 16 (deciphered t l)
 unfolding deciphered block_of
 deciphered-bytes t l =
     record {
@@ -96,7 +96,7 @@ opened-sealed t b p plain s hb hp h bytes =
     place (suc (suc i)) = AllBytes-replicate 14 0 (lit< tt) i
 
 -- a page of 256 bytes is filled with nothing
-filled-page : (page : List ℕ) → length page ≡ 256 → filled page ≡ page
+pub filled-page : (page : List ℕ) → length page ≡ 256 → filled page ≡ page
 unfolding filled
 filled-page page h = ap (λ (n : ℕ). page ++ replicate n 0) (ap (λ (k : ℕ). 256 - k) h) ∙ append-nil page
 
@@ -130,28 +130,28 @@ uncbc-length t n c l hc h =
     through-length (uncbc (deciphered t)) (λ p b. xor_bytes (deciphered t p) b) (λ p b. p) (λ b m. refl) (λ b m k. refl)
     (λ p b hp hb. (xored-length (deciphered t p) b (deciphered-length t p) hb, hp)) n c l hc h
 
--- the first block of what a record opens to
-first : (t : Twofish) (r : List ℕ) → take 16 (uncbc (deciphered t) (replicate 16 0) 17 r) ≡ xor_bytes (deciphered t (take 16 r)) (replicate 16 0)
+-- the first block of a record opens to what it deciphers to
+pub first_opened : (t : Twofish) (r : List ℕ) → take 16 (uncbc (deciphered t) (replicate 16 0) 17 r) ≡ deciphered t (take 16 r)
 unfolding uncbc
-first t r =
-    take_at (xor_bytes (deciphered t (take 16 r)) (replicate 16 0)) _ 16
-    (xored-length (deciphered t (take 16 r)) (replicate 16 0) (deciphered-length t (take 16 r)) refl)
+first_opened t r =
+    let d : List ℕ = deciphered t (take 16 r) in
+    let z : List ℕ = replicate 16 0 in
+    take_at (xor_bytes d z) (uncbc (deciphered t) (take 16 r) 16 (drop 16 r)) 16 (xored-length d z (deciphered-length t (take 16 r)) refl)
+    ∙ xor_zeros d 16 (deciphered-length t (take 16 r))
+
+-- 272 bytes hold a page of 256
+pub page_of-length : (t : Twofish) (r : List ℕ) → length r ≡ 272 → length (page_of (deciphered t) r) ≡ 256
+unfolding page_of
+page_of-length t r long =
+    let W : List ℕ = uncbc (deciphered t) (replicate 16 0) 17 r in
+    length-drop 16 W ∙ omega (arith, uncbc-length t 17 (replicate 16 0) r refl (omega (arith, long)), long)
 
 -- every 272 bytes whose first block deciphers to the place block are the record of a page, and by `one-page` of no other
 pub sealing :
     (t : Twofish) (b p : ℕ) (r : List ℕ) → Schedule t → length r ≡ 272 → AllBytes r → deciphered t (take 16 r) ≡ place_block b p
-    → r ≡ sealed (enciphered t) b p (drop 16 (uncbc (deciphered t) (replicate 16 0) 17 r))
+    → r ≡ sealed (enciphered t) b p (page_of (deciphered t) r)
+unfolding page_of
 sealing t b p r s long bytes e =
-    sealed-opened t b p page r s long bytes (length-drop 16 whole ∙ omega (arith, uncbc-length t 17 (replicate 16 0) r refl (omega (arith, long)), long))
-    (sym (take-append-drop 16 whole) ∙ ap (λ (m : List ℕ). m ++ page) front)
-  where
-    whole : List ℕ
-    whole = uncbc (deciphered t) (replicate 16 0) 17 r
-
-    page : List ℕ
-    page = drop 16 whole
-
-    front : take 16 whole ≡ place_block b p
-    front =
-        first t r
-        ∙ xor_zeros (deciphered t (take 16 r)) 16 (deciphered-length t (take 16 r)) ∙ e
+    let W : List ℕ = uncbc (deciphered t) (replicate 16 0) 17 r in
+    sealed-opened t b p (page_of (deciphered t) r) r s long bytes (page_of-length t r long)
+    (sym (take-append-drop 16 W) ∙ ap (λ (m : List ℕ). m ++ drop 16 W) (first_opened t r ∙ e))

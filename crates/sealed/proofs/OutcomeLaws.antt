@@ -1,6 +1,7 @@
--- What a refused call answers and leaves, by its refusal.
-use Rattle.std.proofs.Common.{◌≡◌, ℕ, List, refl}
+-- What a refused call answers and leaves, by its refusal, and what an answer says of a refusal and a count.
+use Rattle.std.proofs.Common.{◌≡◌, ℕ, List, refl, sym, ap, ◌∙◌}
 use Rattle.spans.specs.Refusals.{leaves}
+use Rattle.twofish.specs.declared.Answer.{Answer}
 use Rattle.twofish.specs.declared.Refusal.{Refusal}
 use Rattle.twofish.specs.declared.Refusal.TheVariants.{KeyLength, Start, BlockLength, Geometry, ImageLength, Place, Length, Record}
 use Rattle.twofish.specs.Answers.{answer, refusal_number}
@@ -26,3 +27,15 @@ refused_leaves ImageLength x l = refl
 refused_leaves Place x l = refl
 refused_leaves Length x l = refl
 refused_leaves Record x l = refl
+
+-- the number of a refusal that is answered
+pub refused_number : (e : Refusal) (n v : ℕ) → record { number = refusal_number e; count = 0 } ≡ answer n v → refusal_number e ≡ n
+unfolding answer
+refused_number e n v h = ap (λ (a : Answer). a.number) h
+
+-- the count of a call that is done
+pub done_count : (c n v : ℕ) → record { number = 0; count = c } ≡ answer n v → (0 ≡ n) × (c ≡ v)
+unfolding answer
+done_count c n v h =
+    let z : 0 ≡ n = ap (λ (a : Answer). a.number) h in
+    (z, ap (λ (a : Answer). a.count) (h ∙ ap (λ (k : ℕ). answer k v) (sym z)))

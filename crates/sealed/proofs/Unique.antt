@@ -5,6 +5,7 @@ use Rattle.twofish.proofs.AnswerLaws.{counted-injective}
 use Rattle.sealed.proofs.seal.Reads as seal
 use Rattle.sealed.proofs.look.Reads as look
 use Rattle.sealed.proofs.read.Reads as read
+use Rattle.sealed.proofs.patch.Reads as patch
 
 pub seal_one : OneOutcome seal.Post (λ κ s. s.1.1.0.now)
 seal_one κ a r r' s s' p p' = (counted-injective r r' (p.0 ∙ sym p'.0), p.1 ∙ sym p'.1)
@@ -14,3 +15,6 @@ look_one κ a r r' s s' p p' = p ∙ sym p'
 
 pub read_one : OneOutcome read.Post (λ κ s. s.1.1.1.1.1.0.now)
 read_one κ a r r' s s' p p' = (counted-injective r r' (p.0 ∙ sym p'.0), p.1 ∙ sym p'.1)
+
+pub patch_one : OneOutcome patch.Post (λ κ s. s.1.1.0.now)
+patch_one κ a r r' s s' p p' = (counted-injective r r' (p.0 ∙ sym p'.0), p.1 ∙ sym p'.1)

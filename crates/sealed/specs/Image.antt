@@ -1,5 +1,5 @@
--- The image: the records of a geometry in slot order, what seal does to it, and what read gives.
-use Rattle.std.specs.Prelude.{Bool, not, ◌&&◌, List, [], ◌∷◌, ◌++◌, ℕ, ◌+◌, ◌*◌, ◌/◌, ◌%◌, eqb, ltb, leb, length, take, drop}
+-- The image: the records of a geometry in slot order, what seal and patch do to it, and what read gives.
+use Rattle.std.specs.Prelude.{Bool, not, ◌&&◌, List, [], ◌∷◌, ◌++◌, ℕ, ◌+◌, ◌-◌, ◌*◌, ◌/◌, ◌%◌, eqb, ltb, leb, length, take, drop}
 use Rattle.spans.specs.Parts.{splice}
 use Rattle.spans.specs.Refusals.{Line, ◌when◌, given}
 use Rattle.twofish.specs.declared.Twofish.{Twofish}
@@ -49,9 +49,9 @@ refusals t G long placed fits =
 unfoldable pub seal_number : Twofish → Geometry → ℕ → ℕ → ℕ → ℕ → ℕ
 seal_number t G long bank page n = given (refusals t G long (reached G bank page) (up_to_256 n))
 
--- the number of read's refusal: after those, a record that is not of its place
-unfoldable pub read_number : Twofish → Geometry → List ℕ → ℕ → ℕ → ℕ → ℕ
-read_number t G image bank offset n =
+-- the number of read's and patch's refusal: after those, a record that is not of its place
+unfoldable pub access_number : Twofish → Geometry → List ℕ → ℕ → ℕ → ℕ → ℕ
+access_number t G image bank offset n =
     given
     (refusals t G (length image) (offset_reached G bank offset) (within_page offset n)
     ++ 8 when not (looked (deciphered t) bank (offset / 256) (record_at G bank (offset / 256) image)) ∷ [])
@@ -63,3 +63,12 @@ sealed_in E G bank page plain image = splice (272 * slot G bank page) (sealed E 
 -- the n bytes from an offset on, as the page's record holds them
 unfoldable pub read_from : (List ℕ → List ℕ) → Geometry → ℕ → ℕ → ℕ → List ℕ → List ℕ
 read_from D G bank offset n image = take n (drop (offset % 256) (page_of D (record_at G bank (offset / 256) image)))
+
+-- an image with bytes laid over a page from an offset on: the page sealed afresh with them
+unfoldable pub patched_in : (List ℕ → List ℕ) → (List ℕ → List ℕ) → Geometry → ℕ → ℕ → List ℕ → List ℕ → List ℕ
+patched_in E D G bank offset bytes image =
+    sealed_in E G bank (offset / 256) (splice (offset % 256) bytes (page_of D (record_at G bank (offset / 256) image))) image
+
+-- how many blocks a patch counts: from the first that it writes into to the end
+unfoldable pub patch_count : ℕ → ℕ
+patch_count offset = 16 - offset % 256 / 16

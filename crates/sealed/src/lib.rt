@@ -1,14 +1,15 @@
 // The sealed image: its geometry, its records, seal, read, and the look at a record.
 #![tactic(auto)]
 
-ghost use Rattle.std.specs.Prelude.{◌≡◌, ◌++◌, ◌+◌, ◌*◌, ◌/◌, ◌<◌, ◌≤◌, length, take, drop, true};
+ghost use Rattle.std.specs.Prelude.{◌≡◌, ◌++◌, ◌+◌, ◌*◌, ◌/◌, ◌<◌, ◌≤◌, length, take, drop, replicate, true};
 ghost use Rattle.spans.specs.Bytes.{xor_bytes};
+ghost use Rattle.spans.specs.Parts.{splice};
 ghost use Rattle.spans.specs.Refusals.{given, leaves};
 ghost use Rattle.twofish.specs.Answers.{answer, outcome_number, counted};
-ghost use Rattle.block.specs.Block.{enciphered, deciphered};
+ghost use Rattle.block.specs.Block.{enciphered, deciphered, Schedule};
 ghost use Rattle.sealed.specs.Cbc.{cbc, uncbc};
 ghost use Rattle.sealed.specs.Record.{place_block, filled, sealed, looked, look_answer, page_of};
-ghost use Rattle.sealed.specs.Image.{in_range, reached, offset_reached, slot, up_to_256, within_page, refusals, seal_number, sealed_in, read_number, read_from};
+ghost use Rattle.sealed.specs.Image.{in_range, reached, offset_reached, slot, up_to_256, within_page, refusals, seal_number, sealed_in, access_number, read_from, patched_in, patch_count};
 
 use twofish::{Refusal, Twofish};
 
@@ -192,6 +193,31 @@ impl Accepted {
         self.unchain_blocks(spans::block(&blocks[16 * first..at]), &mut page[..long]);
         out.copy_from_slice(&page[p % 16..p % 16 + out.len()]);
     }
+
+    // Bytes laid from q on over what whole blocks hold in CBC after the chaining block.
+    fn overlay(&self, chain: [u8; 16], q: usize, bytes: &[u8], blocks: &mut [u8])
+        requires { q + length bytes.now ≤ length blocks.old }
+        ensures { blocks.new ≡ cbc (enciphered self.now.t) chain (length blocks.old / 16) (splice q bytes.now (uncbc (deciphered self.now.t) chain (length blocks.old / 16) blocks.old)) }
+    {
+        self.unchain_blocks(chain, blocks);
+        blocks[q..q + bytes.len()].copy_from_slice(bytes);
+        self.chain_blocks(chain, blocks);
+    }
+
+    // Bytes laid over a record's page from p on. The blocks from the first that holds one of them on are worked through aside, and then written.
+    fn patch_record(&self, p: usize, bytes: &[u8], blocks: &mut [u8])
+        requires { (Schedule self.now.t) × (length blocks.old ≡ 272) × (0 < length bytes.now) × (p + length bytes.now ≤ 256) }
+        ensures { blocks.new ≡ cbc (enciphered self.now.t) (replicate 16 0) 17 (splice (16 + p) bytes.now (uncbc (deciphered self.now.t) (replicate 16 0) 17 blocks.old)) }
+    {
+        let first = 16 * (p / 16);
+        let at = 16 + first;
+        let chain = spans::block(&blocks[first..at]);
+        let mut page = [0; 256];
+        let rest = &mut page[..256 - first];
+        rest.copy_from_slice(&blocks[at..]);
+        self.overlay(chain, p % 16, bytes, rest);
+        blocks[at..].copy_from_slice(rest);
+    }
 }
 
 // A page sealed into its slot: 1 to 256 plain bytes, a short page filled at its end. The old record is not looked at, and a refusal leaves every byte.
@@ -226,6 +252,28 @@ pub fn look(t: Twofish, bank: u32, page: u32, bytes: &[u8]) -> bool
     cipher.looked(bank, page, bytes)
 }
 
+// Where the record that a call looks at begins: the page at a bank's offset, from which the call reads or writes n bytes; or the first refusal in order.
+fn found(
+    t: Twofish,
+    geometry: Geometry,
+    image: &[u8],
+    bank: u32,
+    offset: u32,
+    n: usize,
+) -> Result<usize, Refusal>
+    ensures { counted result ≡ answer (access_number t geometry image.now bank offset n) (272 * slot geometry bank (offset / 256)) }
+{
+    let placed = geometry.offset_reached(bank, offset);
+    judged(t, geometry, image.len(), placed, within_page(offset, n))?;
+    let page = offset / 256;
+    let at = geometry.record_start(bank, page);
+    let cipher = Accepted { t };
+    if !cipher.looked(bank, page, &image[at..at + Twofish::RECORD]) {
+        return Err(Refusal::Record);
+    }
+    Ok(at)
+}
+
 // The plain bytes of a bank from an offset on, 1 to 256 and all inside one page, into the whole of out. A refusal leaves every byte.
 pub fn read(
     t: Twofish,
@@ -235,24 +283,31 @@ pub fn read(
     offset: u32,
     out: &mut [u8],
 ) -> Result<u32, Refusal>
-    ensures outcome { counted result ≡ answer (read_number t geometry image.now bank offset (length out.old)) 0 }
-    ensures out { out.new ≡ leaves (read_number t geometry image.now bank offset (length out.old)) (read_from (deciphered t) geometry bank offset (length out.old) image.now) out.old }
+    ensures outcome { counted result ≡ answer (access_number t geometry image.now bank offset (length out.old)) 0 }
+    ensures out { out.new ≡ leaves (access_number t geometry image.now bank offset (length out.old)) (read_from (deciphered t) geometry bank offset (length out.old) image.now) out.old }
 {
-    let placed = geometry.offset_reached(bank, offset);
-    judged(
-        t,
-        geometry,
-        image.len(),
-        placed,
-        within_page(offset, out.len()),
-    )?;
-    let page = offset / 256;
-    let at = geometry.record_start(bank, page);
+    let at = found(t, geometry, image, bank, offset, out.len())?;
     let blocks = &image[at..at + Twofish::RECORD];
     let cipher = Accepted { t };
-    if !cipher.looked(bank, page, blocks) {
-        return Err(Refusal::Record);
-    }
     cipher.open(blocks, offset as usize % 256, out);
     Ok(0)
+}
+
+// Bytes of a bank's page replaced from an offset on, 1 to 256 and all inside one page. No byte before the first block that holds one of them is written, and a refusal leaves every byte.
+pub fn patch(
+    t: Twofish,
+    geometry: Geometry,
+    image: &mut [u8],
+    bank: u32,
+    offset: u32,
+    bytes: &[u8],
+) -> Result<u32, Refusal>
+    ensures outcome { counted result ≡ answer (access_number t geometry image.old bank offset (length bytes.now)) (patch_count offset) }
+    ensures image { image.new ≡ leaves (access_number t geometry image.old bank offset (length bytes.now)) (patched_in (enciphered t) (deciphered t) geometry bank offset bytes.now image.old) image.old }
+{
+    let at = found(t, geometry, image, bank, offset, bytes.len())?;
+    let blocks = &mut image[at..at + Twofish::RECORD];
+    let cipher = Accepted { t };
+    cipher.patch_record(offset as usize % 256, bytes, blocks);
+    Ok(16 - offset % 256 / 16)
 }

@@ -1,13 +1,13 @@
 -- Laws of parts of a list and of a list with a part replaced.
-use mathlib.Core.Path.{◌≡◌, ap, ◌∙◌}
+use mathlib.Core.Path.{◌≡◌, refl, sym, ap, ◌∙◌}
 use mathlib.Core.List.{List, ◌++◌, append_assoc, append-nil}
 use Prim.Native.Nat.{ℕ, suc, ◌+◌, ◌*◌, ◌≤◌}
 use native.Mathlib.Nat.{zero-add}
 use native.Mathlib.Omega.{arith}
 use borrow.Rule.Slice.PartMut.{put_mid}
 use Rattle.std.proofs.lemmas.List.{drop-take}
-use lib.ListN.{length, take, drop, replicate, length-append, length-drop}
-use lib.Seq.{length-take-le, take_at, drop_at, take_all, drop-drop, drop-length, take-append-le, take-take}
+use lib.ListN.{length, take, drop, replicate, length-append, length-drop, take-append-drop}
+use lib.Seq.{length-take-le, take_at, drop_at, take_all, drop-drop, drop-length, take-append-add, take-append-le, take-take}
 use Rattle.spans.specs.Parts.{part, splice}
 
 module _ (o : ℕ) (vs l : List ℕ) (fits : o + length vs ≤ length l) where
@@ -37,6 +37,15 @@ module _ (o : ℕ) (vs l : List ℕ) (fits : o + length vs ≤ length l) where
       rw (← append_assoc (take o l) vs (drop (o + length vs) l))
       (drop_at (take o l ++ vs) (drop (o + length vs) l) (o + length vs) written_length)
 
+  -- up to within what is written
+  pub take_within : (n : ℕ) → n ≤ length vs → take (o + n) (splice o vs l) ≡ take o l ++ take n vs
+  unfolding splice
+  take_within n h =
+      let rest : List ℕ = vs ++ drop (o + length vs) l in
+      ap (λ (k : ℕ). take (k + n) (take o l ++ rest)) (sym head_length)
+      ∙ take-append-add (take o l) rest n
+      ∙ ap (λ (r : List ℕ). take o l ++ r) (take-append-le n vs (drop (o + length vs) l) h)
+
   -- nothing before what is written changes
   pub take_before : (n : ℕ) → n ≤ o → take n (splice o vs l) ≡ take n l
   unfolding splice
@@ -47,6 +56,21 @@ module _ (o : ℕ) (vs l : List ℕ) (fits : o + length vs ≤ length l) where
 pub splice_whole : (vs l : List ℕ) → length vs ≡ length l → splice 0 vs l ≡ vs
 unfolding splice
 splice_whole vs l h = rw (zero-add, h, drop-length) (append-nil vs)
+
+-- a part replaced by what is there
+pub splice_same : (o n : ℕ) (l : List ℕ) → o + n ≤ length l → splice o (take n (drop o l)) l ≡ l
+unfolding splice
+splice_same o n l h =
+    let long : length (take n (drop o l)) ≡ n = length-take-le n (drop o l) (omega (arith, h, length-drop o l)) in
+    ap (λ (k : ℕ). take o l ++ (take n (drop o l) ++ drop (o + k) l)) long
+    ∙ ap (λ (r : List ℕ). take o l ++ (take n (drop o l) ++ r)) (sym (drop-drop n o l))
+    ∙ ap (λ (r : List ℕ). take o l ++ r) (take-append-drop n (drop o l))
+    ∙ take-append-drop o l
+
+-- a list is replaced from o to its end
+pub splice_end : (o : ℕ) (vs l : List ℕ) → o + length vs ≡ length l → splice o vs l ≡ take o l ++ vs
+unfolding splice
+splice_end o vs l h = rw (h, drop-length, append-nil) refl
 
 -- a block of 16 as it is taken by value
 pub block_whole : (l : List ℕ) → length l ≡ 16 → splice 0 (take 16 l) (replicate 16 0) ≡ l

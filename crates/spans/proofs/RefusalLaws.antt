@@ -1,13 +1,13 @@
--- Laws of the number given: it is that of the first refusal whose condition holds, and 0 exactly when none holds.
-use mathlib.Core.Path.{◌≡◌, refl, subst}
+-- Laws of the number given: it is a refusal's exactly when its condition holds and none before it does, and 0 exactly when none holds.
+use mathlib.Core.Path.{◌≡◌, refl, sym, ap, subst, ◌∙◌}
 use mathlib.Core.Bool.{Bool, true, false, not, ◌&&◌}
-use mathlib.Core.List.{List, [], ◌∷◌, ◌++◌}
+use mathlib.Core.List.{List, [], ◌∷◌, ◌++◌, append-nil}
 use Prim.Native.Nat.{ℕ, suc}
 use native.Mathlib.Omega.{arith}
-use borrow.Author.Tests.{eq-eqb}
+use borrow.Author.Tests.{eq-eqb, ne_eqb}
 use lib.Dec.{T, eqb}
 use Rattle.std.specs.Prelude.{cond}
-use Rattle.spans.specs.Refusals.{Line, ◌when◌, given}
+use Rattle.spans.specs.Refusals.{Line, ◌when◌, given, leaves}
 
 -- no condition of the list holds
 abbrev pub NoneHolds : List Line → Type 0
@@ -60,3 +60,25 @@ given_kept (r ∷ rs) ss n = by r.holds n (given_kept rs ss)
         → cond b r.number (given (rs ++ ss)) ≡ cond b r.number (given rs)
     by true m k = refl
     by false m k = k m
+
+-- a number of the list is given exactly when its condition holds and none before it does
+pub given_exactly :
+    (n : ℕ) (b : Bool) (rs ss : List Line) → (n ≡ 0 → ⊥) → T (others n rs) → T (others n ss)
+    → (given (rs ++ n when b ∷ ss) ≡ n → NoneHolds rs × (b ≡ true)) × (NoneHolds rs → b ≡ true → given (rs ++ n when b ∷ ss) ≡ n)
+unfolding given
+given_exactly n b rs ss some o o' =
+    (λ e. let k = given_other n rs (n when b ∷ ss) o e in (k.0, held b k.1), λ none h. given_after rs (n when b ∷ ss) none ∙ ap (λ (c : Bool). cond c n (given ss)) h)
+  where
+    held : (c : Bool) → cond c n (given ss) ≡ n → c ≡ true
+    held true e = refl
+    held false e = absurd (some (sym (given_other n ss [] o' (ap given (append-nil ss) ∙ e)).1))
+
+-- and 0 exactly when none holds
+pub given_zero : (rs : List Line) → T (others 0 rs) → (given rs ≡ 0 → NoneHolds rs) × (NoneHolds rs → given rs ≡ 0)
+unfolding given
+given_zero rs o = (λ e. (given_other 0 rs [] o (ap given (append-nil rs) ∙ e)).0, λ none. ap given (sym (append-nil rs)) ∙ given_after rs [] none)
+
+-- a refusal changes no byte
+pub refusal_leaves : (n : ℕ) (x l : List ℕ) → (n ≡ 0 → ⊥) → leaves n x l ≡ l
+unfolding leaves
+refusal_leaves n x l some = ap (λ (b : Bool). cond b x l) (ne_eqb n 0 some)

@@ -1,7 +1,8 @@
 -- Laws of refusals and outcomes: each is given by document 01's number, and set-up's by what it hands back.
-use Rattle.std.proofs.Common.{◌≡◌, ℕ, zero, suc, refl, sym, ap, ◌∙◌, arith}
+use Rattle.std.proofs.Common.{◌≡◌, Bool, cond, ℕ, zero, suc, refl, sym, ap, ◌∙◌, arith}
+use borrow.Author.Tests.{ne_eqb}
 use Rattle.std.specs.Prelude.{Result, Ok, Err}
-use Rattle.twofish.specs.Answers.{refusal_number, answered, counted}
+use Rattle.twofish.specs.Answers.{answer, refusal_number, answered, counted}
 use Rattle.twofish.specs.Schedule.{SetUp, handed_back}
 use Rattle.twofish.specs.declared.Answer.{Answer}
 use Rattle.twofish.specs.declared.Twofish.{Twofish}
@@ -44,6 +45,11 @@ never_done ImageLength h = omega (arith, h)
 never_done Place h = omega (arith, h)
 never_done Length h = omega (arith, h)
 never_done Record h = omega (arith, h)
+
+-- a refusal counts 0
+pub refusal_counts : (n c : ℕ) → (n ≡ 0 → ⊥) → answer n c ≡ record { number = n; count = 0 }
+unfolding answer
+refusal_counts n c some = ap (λ (b : Bool). record { number = n; count = cond b c 0 }) (ne_eqb n 0 some)
 
 -- outcomes that are answered alike are the same
 pub answered-injective : (r s : Result (Unit {0}) Refusal) → answered r ≡ answered s → r ≡ s

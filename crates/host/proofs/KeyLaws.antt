@@ -1,0 +1,55 @@
+-- Laws of a call with a key's bytes: where the key is taken it is the call under the key's schedule, and else it is refused by 1.
+use Rattle.std.proofs.Common.{◌≡◌, ℕ, true, false, Bool, not, List, length, cond, refl, sym, ap, ap₂, ◌∙◌, arith}
+use Rattle.std.specs.Prelude.{Ok, Err}
+use Rattle.spans.specs.Refusals.{given, leaves}
+use Rattle.twofish.specs.declared.Answer.{Answer}
+use Rattle.twofish.specs.declared.Refusal.{Refusal}
+use Rattle.twofish.specs.declared.Twofish.{Twofish}
+use Rattle.twofish.specs.Answers.{answer, refusal_number}
+use Rattle.twofish.specs.Schedule.{SetUp, taken, set_up, key_number, handed_back}
+use Rattle.twofish.proofs.AnswerLaws.{never_done}
+use Rattle.host.specs.Host.{schedule_of, keyed}
+
+-- a test by the number that it gives
+passed : (b : Bool) → ◌≡◌ {A = ℕ} 0 (cond (not b) 1 0) → b ≡ true
+passed true e = refl
+passed false e = absurd (omega (arith, e))
+
+failed : (b : Bool) (n : ℕ) → (n ≡ 0 → ⊥) → n ≡ cond (not b) 1 0 → (b ≡ false) × (n ≡ 1)
+failed true n some e = absurd (some e)
+failed false n some e = (refl, e)
+
+module _ (key : List ℕ) (number : Twofish → ℕ) where
+  -- a key that is taken
+  module _ (t : Twofish) (e : handed_back (Ok t) ≡ set_up key) where
+    pub its_schedule : t ≡ schedule_of key
+    unfolding schedule_of handed_back
+    its_schedule = ap (λ (u : SetUp). u.schedule) e
+
+    pub its_number : number t ≡ keyed key number
+    unfolding set_up key_number given keyed handed_back
+    its_number =
+        let b = passed (taken (length key)) (ap (λ (u : SetUp). u.number) e) in
+        ap number its_schedule ∙ sym (ap (λ (c : Bool). cond c (number (schedule_of key)) 1) b)
+
+    pub answered_under : (c : ℕ) (a : Answer) → a ≡ answer (number t) c → a ≡ answer (keyed key number) c
+    answered_under c a h = h ∙ ap (λ (n : ℕ). answer n c) its_number
+
+    pub left_under : (made : Twofish → List ℕ) (l s : List ℕ) → s ≡ leaves (number t) (made t) l → s ≡ leaves (keyed key number) (made (schedule_of key)) l
+    left_under made l s h = h ∙ ap₂ (λ (n : ℕ) (u : Twofish). leaves n (made u) l) its_number its_schedule
+
+  -- a key that is refused
+  module _ (e : Refusal) (h : handed_back (Err e) ≡ set_up key) where
+    pub first_number : (refusal_number e ≡ 1) × (1 ≡ keyed key number)
+    unfolding set_up key_number given keyed handed_back
+    first_number =
+        let b = failed (taken (length key)) (refusal_number e) (λ z. never_done e (sym z)) (ap (λ (u : SetUp). u.number) h) in
+        (b.1, sym (ap (λ (c : Bool). cond c (number (schedule_of key)) 1) b.0))
+
+    pub answered_refused : (c : ℕ) (a : Answer) → a ≡ answer (refusal_number e) 0 → a ≡ answer (keyed key number) c
+    unfolding answer
+    answered_refused c a k = k ∙ ap (λ (n : ℕ). answer n 0) first_number.0 ∙ ap (λ (n : ℕ). answer n c) first_number.1
+
+    pub left_refused : (x l : List ℕ) → l ≡ leaves (keyed key number) x l
+    unfolding leaves
+    left_refused x l = ap (λ (n : ℕ). leaves n x l) first_number.1

@@ -1,0 +1,23 @@
+-- Each entry's promise admits one outcome.
+use Rattle.std.proofs.Common.{sym, ◌∙◌}
+use Rattle.words.proofs.Outcome.{OneOutcome}
+use Rattle.host.proofs.hf_encipher.Reads as encipher
+use Rattle.host.proofs.hf_decipher.Reads as decipher
+use Rattle.host.proofs.hf_seal.Reads as seal
+use Rattle.host.proofs.hf_read.Reads as read
+use Rattle.host.proofs.hf_patch.Reads as patch
+
+pub hf_encipher_one : OneOutcome encipher.Post (λ κ s. s.1.0.now)
+hf_encipher_one κ a r r' s s' p p' = (p.0 ∙ sym p'.0, p.1 ∙ sym p'.1)
+
+pub hf_decipher_one : OneOutcome decipher.Post (λ κ s. s.1.0.now)
+hf_decipher_one κ a r r' s s' p p' = (p.0 ∙ sym p'.0, p.1 ∙ sym p'.1)
+
+pub hf_seal_one : OneOutcome seal.Post (λ κ s. s.1.1.1.0.now)
+hf_seal_one κ a r r' s s' p p' = (p.0 ∙ sym p'.0, p.1 ∙ sym p'.1)
+
+pub hf_read_one : OneOutcome read.Post (λ κ s. s.1.1.1.1.1.1.0.now)
+hf_read_one κ a r r' s s' p p' = (p.0 ∙ sym p'.0, p.1 ∙ sym p'.1)
+
+pub hf_patch_one : OneOutcome patch.Post (λ κ s. s.1.1.1.0.now)
+hf_patch_one κ a r r' s s' p p' = (p.0 ∙ sym p'.0, p.1 ∙ sym p'.1)

@@ -1,0 +1,26 @@
+-- `host::hf_read` meets its contract: the bytes read under the key, or a refusal.
+use Rattle.std.proofs.Common.{ℕ, length, ◌∙◌}
+use Rattle.twofish.specs.declared.Twofish.{Twofish}
+use Rattle.block.specs.Block.{deciphered}
+use Rattle.sealed.specs.Image.{access_number, read_from}
+use Rattle.host.specs.Host.{geometry}
+use Rattle.host.proofs.KeyLaws.{answered_under, left_under, answered_refused, left_refused}
+use Rattle.host.proofs.hf_read.Goals as goal
+
+pub returns-in-Ok : goal.returns-in-Ok
+returns-in-Ok c =
+    let a = c.args in
+    let number : Twofish → ℕ = λ t. access_number t (geometry a.pages a.banks) a.image.now a.bank a.offset (length a.out.now) in
+    record {
+      outcome = answered_under a.key.now number c.in-Ok.t c.in-Ok.ensures 0 c.into.result (c.into.ensures ∙ c.read.ensures.outcome);
+      out = left_under a.key.now number c.in-Ok.t c.in-Ok.ensures (λ t. read_from (deciphered t) (geometry a.pages a.banks) a.bank a.offset (length a.out.now) a.image.now) a.out.now c.read.new.out c.read.ensures.out;
+    }
+
+pub returns-in-Err : goal.returns-in-Err
+returns-in-Err c =
+    let a = c.args in
+    let number : Twofish → ℕ = λ t. access_number t (geometry a.pages a.banks) a.image.now a.bank a.offset (length a.out.now) in
+    record {
+      outcome = answered_refused a.key.now number c.in-Err.refusal c.in-Err.ensures 0 c.refused.result c.refused.ensures;
+      out = left_refused a.key.now number c.in-Err.refusal c.in-Err.ensures _ a.out.now;
+    }

@@ -1,0 +1,17 @@
+-- A call of the host, which gives the key's bytes and not a schedule: refusal 1 takes the place of refusal 2.
+use Rattle.std.specs.Prelude.{List, ℕ, length, cond}
+use Rattle.twofish.specs.declared.Twofish.{Twofish}
+use Rattle.twofish.specs.Schedule.{taken, set_up}
+use Rattle.sealed.specs.declared.Geometry.{Geometry}
+
+-- the schedule of a key
+unfoldable pub schedule_of : List ℕ → Twofish
+schedule_of key = (set_up key).schedule
+
+-- the number of the host's call: 1 where the key's length is not taken, else the number that the call gives under the key's schedule
+unfoldable pub keyed : List ℕ → (Twofish → ℕ) → ℕ
+keyed key number = cond (taken (length key)) (number (schedule_of key)) 1
+
+-- the geometry of so many pages in a bank, and banks
+abbrev pub geometry : ℕ → ℕ → Geometry
+geometry pages banks = record { pages = pages; banks = banks }

@@ -1,0 +1,106 @@
+// What a C host links: the two block directions, and seal, read and patch on a sealed image, each with the key's bytes.
+#![tactic(auto)]
+
+ghost use Rattle.std.specs.Prelude.{◌≡◌, length};
+ghost use Rattle.spans.specs.Refusals.{leaves};
+ghost use Rattle.twofish.specs.Answers.{answer, refusal_number};
+ghost use Rattle.block.specs.Block.{enciphered, deciphered, block_number};
+ghost use Rattle.sealed.specs.Image.{seal_number, access_number, patch_count, sealed_in, read_from, patched_in};
+ghost use Rattle.host.specs.Host.{schedule_of, keyed, geometry};
+
+use sealed::Geometry;
+use twofish::{Answer, Refusal, Twofish};
+
+// What a refused key is answered.
+fn refused(refusal: Refusal) -> Answer
+    ensures { result ≡ answer (refusal_number refusal) 0 }
+{
+    Answer {
+        number: refusal.into(),
+        count: 0,
+    }
+}
+
+// The block enciphered where it lies; a refusal leaves every byte.
+#[unsafe(no_mangle)]
+pub extern "C" fn hf_encipher(key: &[u8], block: &mut [u8]) -> Answer
+    ensures outcome { result ≡ answer (keyed key.now (λ t. block_number t block.old)) 0 }
+    ensures block { block.new ≡ leaves (keyed key.now (λ t. block_number t block.old)) (enciphered (schedule_of key.now) block.old) block.old }
+{
+    match Twofish::new(key) {
+        Ok(t) => block::encipher(t, block).into(),
+        Err(refusal) => refused(refusal),
+    }
+}
+
+// The block deciphered where it lies; a refusal leaves every byte.
+#[unsafe(no_mangle)]
+pub extern "C" fn hf_decipher(key: &[u8], block: &mut [u8]) -> Answer
+    ensures outcome { result ≡ answer (keyed key.now (λ t. block_number t block.old)) 0 }
+    ensures block { block.new ≡ leaves (keyed key.now (λ t. block_number t block.old)) (deciphered (schedule_of key.now) block.old) block.old }
+{
+    match Twofish::new(key) {
+        Ok(t) => block::decipher(t, block).into(),
+        Err(refusal) => refused(refusal),
+    }
+}
+
+// A page sealed into its slot: 1 to 256 plain bytes, a short page filled at its end. A refusal leaves every byte.
+#[unsafe(no_mangle)]
+pub extern "C" fn hf_seal(
+    key: &[u8],
+    pages: u32,
+    banks: u32,
+    image: &mut [u8],
+    bank: u32,
+    page: u32,
+    plain: &[u8],
+) -> Answer
+    ensures outcome { result ≡ answer (keyed key.now (λ t. seal_number t (geometry pages banks) (length image.old) bank page (length plain.now))) 17 }
+    ensures image { image.new ≡ leaves (keyed key.now (λ t. seal_number t (geometry pages banks) (length image.old) bank page (length plain.now))) (sealed_in (enciphered (schedule_of key.now)) (geometry pages banks) bank page plain.now image.old) image.old }
+{
+    match Twofish::new(key) {
+        Ok(t) => sealed::seal(t, Geometry { pages, banks }, image, bank, page, plain).into(),
+        Err(refusal) => refused(refusal),
+    }
+}
+
+// The plain bytes of a bank from an offset on, into the whole of out. A refusal leaves every byte.
+#[unsafe(no_mangle)]
+pub extern "C" fn hf_read(
+    key: &[u8],
+    pages: u32,
+    banks: u32,
+    image: &[u8],
+    bank: u32,
+    offset: u32,
+    out: &mut [u8],
+) -> Answer
+    ensures outcome { result ≡ answer (keyed key.now (λ t. access_number t (geometry pages banks) image.now bank offset (length out.old))) 0 }
+    ensures out { out.new ≡ leaves (keyed key.now (λ t. access_number t (geometry pages banks) image.now bank offset (length out.old))) (read_from (deciphered (schedule_of key.now)) (geometry pages banks) bank offset (length out.old) image.now) out.old }
+{
+    match Twofish::new(key) {
+        Ok(t) => sealed::read(t, Geometry { pages, banks }, image, bank, offset, out).into(),
+        Err(refusal) => refused(refusal),
+    }
+}
+
+// Bytes of a bank's page replaced from an offset on. A refusal leaves every byte.
+#[unsafe(no_mangle)]
+pub extern "C" fn hf_patch(
+    key: &[u8],
+    pages: u32,
+    banks: u32,
+    image: &mut [u8],
+    bank: u32,
+    offset: u32,
+    bytes: &[u8],
+) -> Answer
+    ensures outcome { result ≡ answer (keyed key.now (λ t. access_number t (geometry pages banks) image.old bank offset (length bytes.now))) (patch_count offset) }
+    ensures image { image.new ≡ leaves (keyed key.now (λ t. access_number t (geometry pages banks) image.old bank offset (length bytes.now))) (patched_in (enciphered (schedule_of key.now)) (deciphered (schedule_of key.now)) (geometry pages banks) bank offset bytes.now image.old) image.old }
+{
+    match Twofish::new(key) {
+        Ok(t) => sealed::patch(t, Geometry { pages, banks }, image, bank, offset, bytes).into(),
+        Err(refusal) => refused(refusal),
+    }
+}
