@@ -1,13 +1,17 @@
 -- Laws of a call with a key's bytes: where the key is taken it is the call under the key's schedule, and else it is refused by 1.
-use Rattle.std.proofs.Common.{◌≡◌, ℕ, true, false, Bool, not, List, length, cond, refl, sym, ap, ap₂, ◌∙◌, arith}
+use Rattle.std.proofs.Common.{◌≡◌, ℕ, ◌/◌, ◌<◌, ◌≤◌, [], ◌∷◌, subst, ltb, true, false, Bool, not, List, length, cond, refl, sym, ap, ap₂, ◌∙◌, arith}
 use Rattle.std.specs.Prelude.{Ok, Err}
-use Rattle.spans.specs.Refusals.{given, leaves}
+use Rattle.spans.specs.Refusals.{Line, ◌when◌, given, leaves}
+use Rattle.spans.proofs.RefusalLaws.{others, given_exactly}
 use Rattle.twofish.specs.declared.Answer.{Answer}
 use Rattle.twofish.specs.declared.Refusal.{Refusal}
 use Rattle.twofish.specs.declared.Twofish.{Twofish}
 use Rattle.twofish.specs.Answers.{answer, refusal_number}
-use Rattle.twofish.specs.Schedule.{SetUp, taken, set_up, key_number, handed_back}
+use Rattle.twofish.specs.Schedule.{schedule, refused, SetUp, taken, set_up, key_number, handed_back}
 use Rattle.twofish.proofs.AnswerLaws.{never_done}
+use Rattle.twofish.proofs.ScheduleLaws.{taken_units}
+use borrow.Author.Tests.{ltb-true}
+use lib.Dec.{T}
 use Rattle.host.specs.Host.{schedule_of, keyed}
 
 -- a test by the number that it gives
@@ -53,3 +57,24 @@ module _ (key : List ℕ) (number : Twofish → ℕ) where
     pub left_refused : (x l : List ℕ) → l ≡ leaves (keyed key number) x l
     unfolding leaves
     left_refused x l = ap (λ (n : ℕ). leaves n x l) first_number.1
+
+-- a key's schedule has a start that every call takes
+pub start_taken : (key : List ℕ) → taken (length key) ≡ true → (schedule_of key).start ≤ 2
+unfolding schedule_of set_up schedule
+start_taken key e =
+    let few : 2 ≤ length key / 8 = (taken_units (length key) e).1 in
+    subst (λ (t : Twofish). t.start ≤ 2) (ap (λ (b : Bool). cond b (schedule key (length key / 8)) refused) (sym e)) (omega (arith, few))
+
+-- so a host's call, whose order begins with refusal 2 and has it only there, is never refused by 2
+pub never_two :
+    (key : List ℕ) (rest : Twofish → List Line) → ((t : Twofish) → T (others 2 (rest t)))
+    → keyed key (λ t. given (2 when ltb 2 t.start ∷ rest t)) ≡ 2 → ⊥
+unfolding keyed
+never_two key rest once h = by (taken (length key)) refl h
+  where
+    by : (b : Bool) → taken (length key) ≡ b → cond b (given (2 when ltb 2 (schedule_of key).start ∷ rest (schedule_of key))) 1 ≡ 2 → ⊥
+    by false e k = let z : ◌≡◌ {A = ℕ} 1 2 = k in omega (arith, z)
+    by true e k =
+        let high = ((given_exactly 2 (ltb 2 (schedule_of key).start) [] (rest (schedule_of key)) (λ z. omega (arith, z)) tt (once (schedule_of key))).0 k).1 in
+        let above : 2 < (schedule_of key).start = ltb-true _ _ high in
+        omega (arith, above, start_taken key e)

@@ -9,3 +9,4 @@ pub mod MiddleLaws
 pub mod AccessLaws
 pub mod PatchLaws
 pub mod PatchFacts
+pub mod PageLaws

@@ -61,6 +61,19 @@ given_kept (r ∷ rs) ss n = by r.holds n (given_kept rs ss)
     by true m k = refl
     by false m k = k m
 
+-- what is given last counts only where nothing is given before it
+pub given_last : (rs ss zs : List Line) → (given rs ≡ 0 → given ss ≡ given zs) → given (rs ++ ss) ≡ given (rs ++ zs)
+unfolding given
+given_last [] ss zs h = h refl
+given_last (r ∷ rs) ss zs h = by r.holds h (given_last rs ss zs)
+  where
+    by :
+        (b : Bool) → (cond b r.number (given rs) ≡ 0 → given ss ≡ given zs)
+        → ((given rs ≡ 0 → given ss ≡ given zs) → given (rs ++ ss) ≡ given (rs ++ zs))
+        → cond b r.number (given (rs ++ ss)) ≡ cond b r.number (given (rs ++ zs))
+    by true k m = refl
+    by false k m = m k
+
 -- a number of the list is given exactly when its condition holds and none before it does
 pub given_exactly :
     (n : ℕ) (b : Bool) (rs ss : List Line) → (n ≡ 0 → ⊥) → T (others n rs) → T (others n ss)

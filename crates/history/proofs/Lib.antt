@@ -1,0 +1,9 @@
+pub mod OrderLaws
+pub mod RunLaws
+pub mod PlaceLaws
+pub mod SlotLaws
+pub mod ImageSteps
+pub mod ViewLaws
+pub mod Promised
+pub mod PageSteps
+pub mod Demand

@@ -1,0 +1,116 @@
+-- One call on slots that are all pages goes as on the list of the pages.
+use Rattle.std.proofs.Common.{◌≡◌, ◌≢◌, ℕ, suc, ◌/◌, ◌%◌, ◌<◌, Bool, List, [], ◌∷◌, ◌++◌, length, take, drop, set, get_or, map, refl, sym, ap, subst, ◌∙◌, arith, length-set}
+use Rattle.std.proofs.lemmas.List.{map-set, get_or-map, length-map}
+use Rattle.spans.specs.Bytes.{Bytes}
+use Rattle.spans.specs.Parts.{splice}
+use Rattle.spans.specs.Refusals.{◌when◌, given}
+use Rattle.spans.proofs.RefusalLaws.{given_other, given_last}
+use Rattle.twofish.specs.declared.Twofish.{Twofish}
+use Rattle.block.specs.Block.{enciphered}
+use Rattle.sealed.specs.declared.Geometry.{Geometry}
+use Rattle.sealed.specs.Record.{filled, sealed}
+use Rattle.sealed.specs.Image.{slot, refusals, seal_number}
+use Rattle.sealed.proofs.PageLaws.{filled-bytes, patched-bytes}
+use Rattle.history.specs.Calls.{Call, Seal, Patch, Read, WritesBytes, before_look}
+use Rattle.history.specs.Order.{in_order, Each}
+use Rattle.history.specs.Slots.{Slot, Page, Raw, is_raw, held, slot_of, slot_access, slots_number, slots_bytes, slots_next, on_slots, slot_record, image_of, Right, Slots}
+use Rattle.history.specs.Pages.{pages_number, page_at, plain_bytes, applied, on_pages, sealing, Pages}
+use Rattle.history.proofs.OrderLaws.{Each-at, Each-set}
+use Rattle.history.proofs.RunLaws.{Follows}
+use Rattle.history.proofs.PlaceLaws.{There, slot-within, seal_fits, reaches}
+
+-- the slots of pages
+abbrev pub as_slots : List (List ℕ) → List Slot
+as_slots pages = map (λ page. Page page) pages
+
+module _ (t : Twofish) (G : Geometry) where
+  -- the sealing afresh of pages is that of their slots
+  pub image_of-pages : (pages : List (List ℕ)) → image_of t G (as_slots pages) ≡ sealing t G pages
+  unfolding image_of sealing in_order slot_record
+  image_of-pages pages = from 0 pages
+    where
+      from :
+          (s : ℕ) (pages : List (List ℕ))
+          → in_order (slot_record t G) s (as_slots pages) ≡ in_order (λ n page. sealed (enciphered t) (n / G.pages) (n % G.pages) page) s pages
+      from s [] = refl
+      from s (page ∷ pages) = ap (λ (l : List ℕ). sealed (enciphered t) (s / G.pages) (s % G.pages) page ++ l) (from (suc s) pages)
+
+  pub slots-pages : (pages : List (List ℕ)) → Pages G pages → Slots t G (as_slots pages)
+  unfolding Right
+  slots-pages pages h = record { count = length-map pages (λ page. Page page) ∙ h.count; each = from 0 pages h.each }
+    where
+      from : (s : ℕ) (pages : List (List ℕ)) → Each (λ n page. Bytes 256 page) s pages → Each (Right t G) s (as_slots pages)
+      from s [] h = tt
+      from s (page ∷ pages) h = (h.0, from (suc s) pages h.1)
+
+  module _ (pages : List (List ℕ)) (h : Pages G pages) where
+    module _ (bank page : ℕ) (there : There G bank page) where
+      abbrev at : ℕ
+      at = slot G bank page
+
+      within : at < length pages
+      within = subst (λ (n : ℕ). at < n) (sym h.count) (slot-within there)
+
+      slot_of-pages : slot_of G bank page (as_slots pages) ≡ Page (get_or pages at [])
+      unfolding slot_of
+      slot_of-pages = get_or-map (λ page. Page page) pages at [] (Raw []) within
+
+      page-there : Bytes 256 (get_or pages at [])
+      page-there = Each-at (λ n page. Bytes 256 page) 0 at at pages [] (omega arith) h.each within
+
+      set-page : (page' : List ℕ) → Bytes 256 page' → Pages G (set pages at page')
+      set-page page' b =
+          record { count = length-set pages at page' ∙ h.count; each = Each-set (λ n page. Bytes 256 page) 0 at at pages page' (omega arith) h.each b }
+
+    -- a patch or a read
+    module _ (bank offset n : ℕ) where
+      same_access : slot_access t G (as_slots pages) bank offset n ≡ given (before_look t G bank offset n)
+      unfolding slot_access before_look refusals given
+      same_access =
+          given_last (before_look t G bank offset n) (8 when is_raw (slot_of G bank (offset / 256) (as_slots pages)) ∷ []) []
+          (λ e. ap (λ (x : Slot). given (8 when is_raw x ∷ [])) (slot_of-pages bank (offset / 256) (reaches t G bank offset n e).there))
+
+      same_page : given (before_look t G bank offset n) ≡ 0 → held (slot_of G bank (offset / 256) (as_slots pages)) ≡ page_at G bank offset pages
+      unfolding page_at
+      same_page e = ap held (slot_of-pages bank (offset / 256) (reaches t G bank offset n e).there)
+
+    pub pages_follow : (c : Call) → WritesBytes c → Follows (on_slots t G) (on_pages t G) as_slots (Pages G) c pages
+    unfolding WritesBytes slots_number slots_bytes slots_next pages_number page_at plain_bytes applied before_look
+    pages_follow (Seal bank page plain) b =
+        record {
+          number = refl;
+          bytes = λ e. refl;
+          next = λ e. sym (map-set (λ page. Page page) pages (slot G bank page) (filled plain));
+          keeps = λ e. let k = seal_fits t G bank page (length plain) e in set-page bank page k.there (filled plain) (filled-bytes plain k.fits b);
+        }
+    pages_follow (Patch bank offset bytes) b =
+        record {
+          number = same_access bank offset (length bytes);
+          bytes = λ e. refl;
+          next =
+              λ e.
+              ap (λ (l : List ℕ). set (as_slots pages) (slot G bank (offset / 256)) (Page (splice (offset % 256) bytes l))) (same_page bank offset (length bytes) e)
+              ∙ sym (map-set (λ page. Page page) pages (slot G bank (offset / 256)) (splice (offset % 256) bytes (page_at G bank offset pages)));
+          keeps =
+              λ e.
+              let k = reaches t G bank offset (length bytes) e in
+              set-page bank (offset / 256) k.there _ (patched-bytes (offset % 256) bytes _ k.inside b (page-there bank (offset / 256) k.there));
+        }
+    pages_follow (Read bank offset out) b =
+        record {
+          number = same_access bank offset (length out);
+          bytes = λ e. ap (λ (l : List ℕ). take (length out) (drop (offset % 256) l)) (same_page bank offset (length out) e);
+          next = λ e. refl;
+          keeps = λ e. h;
+        }
+
+-- 8 is none of the refusals before a look
+not_eight : (t : Twofish) (G : Geometry) (long : ℕ) (placed fits : Bool) → given (refusals t G long placed fits) ≢ 8
+unfolding refusals given
+not_eight t G long placed fits e = let none = (given_other 8 (refusals t G long placed fits) [] tt e).1 in omega (arith, none)
+
+pub never_eight : (t : Twofish) (G : Geometry) (c : Call) → pages_number t G c ≢ 8
+unfolding pages_number seal_number before_look
+never_eight t G (Seal bank page plain) e = not_eight t G _ _ _ e
+never_eight t G (Patch bank offset bytes) e = not_eight t G _ _ _ e
+never_eight t G (Read bank offset out) e = not_eight t G _ _ _ e

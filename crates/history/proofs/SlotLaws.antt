@@ -1,0 +1,104 @@
+-- Laws of the sealing afresh of slots: its length, its records, a page sealed into it, and what a look and an opening say of a record of it.
+use Rattle.std.proofs.Common.{◌≡◌, ℕ, ◌*◌, ◌/◌, ◌%◌, ◌<◌, true≢false, true, false, not, List, [], ◌++◌, length, set, replicate, sym, ap, ap₂, subst, ◌∙◌, arith, length-set}
+use Rattle.spans.specs.Bytes.{Bytes}
+use Rattle.spans.specs.Parts.{splice}
+use Rattle.twofish.specs.declared.Twofish.{Twofish}
+use Rattle.block.specs.Block.{enciphered, deciphered, Schedule}
+use Rattle.block.proofs.ThereAndBack.{enciphered-length}
+use Rattle.sealed.specs.declared.Geometry.{Geometry}
+use Rattle.sealed.specs.Cbc.{cbc}
+use Rattle.sealed.specs.Record.{place_block, filled, sealed, looked, page_of}
+use Rattle.sealed.specs.Image.{slot, image_length, record_at, sealed_in}
+use Rattle.sealed.proofs.RecordLaws.{sealed-length}
+use Rattle.sealed.proofs.OpenLaws.{filled-page}
+use Rattle.sealed.proofs.PageLaws.{page_of-sealed, looked-sealed}
+use Rattle.history.specs.Order.{Each}
+use Rattle.history.specs.Slots.{Slot, Page, Raw, is_raw, held, slot_of, slot_record, image_of, Right, Slots}
+use Rattle.history.proofs.PlaceLaws.{There, slot-within, slot-bank, slot-page, bank_byte, page_byte}
+use Rattle.history.proofs.OrderLaws.{Each-at, Each-set, Each-map, in_order-length, record-in_order, splice-in_order}
+
+module _ (t : Twofish) (G : Geometry) (s : Schedule t) where
+  record-length : (n : ℕ) (x : Slot) → Right t G n x → length (slot_record t G n x) ≡ 272
+  unfolding slot_record Right
+  record-length n (Page page) r = sealed-length (enciphered t) _ _ page (enciphered-length t) (omega (arith, r.long))
+  record-length n (Raw bytes) r = r.0
+
+  module _ (slots : List Slot) (h : Slots t G slots) where
+    records : Each (λ n x. length (slot_record t G n x) ≡ 272) 0 slots
+    records = Each-map (Right t G) _ record-length 0 slots h.each
+
+    pub image_of-length : length (image_of t G slots) ≡ image_length G
+    unfolding image_of image_length
+    image_of-length = in_order-length (slot_record t G) 0 slots records ∙ ap (λ (n : ℕ). 272 * n) h.count
+
+    module _ (bank page : ℕ) (there : There G bank page) where
+      abbrev at : ℕ
+      at = slot G bank page
+
+      within : at < length slots
+      within = subst (λ (n : ℕ). at < n) (sym h.count) (slot-within there)
+
+      at_place : {X : Type 0} (f : ℕ → ℕ → X) → f (at / G.pages) (at % G.pages) ≡ f bank page
+      at_place f = ap₂ f (slot-bank there) (slot-page there)
+
+      right-there : Right t G at (slot_of G bank page slots)
+      unfolding slot_of
+      right-there = Each-at (Right t G) 0 at at slots (Raw []) (omega arith) h.each within
+
+      -- the record of a slot
+      record-there : record_at G bank page (image_of t G slots) ≡ slot_record t G at (slot_of G bank page slots)
+      unfolding record_at image_of slot_of
+      record-there = record-in_order (slot_record t G) 0 at at slots (Raw []) (omega arith) records within
+
+      -- a page set into a slot
+      pub set-there : (page' : List ℕ) → Bytes 256 page' → Slots t G (set slots at (Page page'))
+      unfolding Right
+      set-there page' b =
+          record { count = length-set slots at (Page page') ∙ h.count; each = Each-set (Right t G) 0 at at slots (Page page') (omega arith) h.each b }
+
+      -- plain bytes sealed into a slot are the page that they make
+      pub sealed_in-there :
+          (plain page' : List ℕ) → filled plain ≡ page' → Bytes 256 page'
+          → sealed_in (enciphered t) G bank page plain (image_of t G slots) ≡ image_of t G (set slots at (Page page'))
+      unfolding sealed_in image_of sealed slot_record Right
+      sealed_in-there plain page' e b =
+          let same : sealed (enciphered t) bank page plain ≡ slot_record t G at (Page page') =
+          ap (λ (l : List ℕ). cbc (enciphered t) (replicate 16 0) 17 (place_block bank page ++ l)) (e ∙ sym (filled-page page' b.long))
+          ∙ sym (at_place (λ (m n : ℕ). sealed (enciphered t) m n page')) in
+          ap (λ (r : List ℕ). splice (272 * at) r (image_of t G slots)) same
+          ∙ splice-in_order (slot_record t G) 0 at at slots (Page page') (omega arith) records (record-length at (Page page') b) within
+
+      -- a page sealed in its place
+      module _ (plain : List ℕ) (b : Bytes 256 plain) where
+        looked-page : looked (deciphered t) bank page (slot_record t G at (Page plain)) ≡ true
+        unfolding slot_record
+        looked-page =
+            ap (looked (deciphered t) bank page) (at_place (λ (m n : ℕ). sealed (enciphered t) m n plain))
+            ∙ looked-sealed t bank page s plain (bank_byte there) (page_byte there) (omega (arith, b.long)) b.byte
+
+        opened-page : page_of (deciphered t) (slot_record t G at (Page plain)) ≡ plain
+        unfolding slot_record
+        opened-page =
+            ap (page_of (deciphered t)) (at_place (λ (m n : ℕ). sealed (enciphered t) m n plain))
+            ∙ page_of-sealed t bank page s plain (bank_byte there) (page_byte there) (omega (arith, b.long)) b.byte ∙ filled-page plain b.long
+
+      -- a record is that of its place exactly where its slot holds a page, and holds that page
+      looked-slot : (x : Slot) → Right t G at x → not (looked (deciphered t) bank page (slot_record t G at x)) ≡ is_raw x
+      unfolding Right slot_record
+      looked-slot (Page plain) b = ap not (looked-page plain b)
+      looked-slot (Raw bytes) r = ap not (sym (at_place (λ (m n : ℕ). looked (deciphered t) m n bytes)) ∙ r.1)
+
+      opened-slot : (x : Slot) → Right t G at x → is_raw x ≡ false → (page_of (deciphered t) (slot_record t G at x) ≡ held x) × Bytes 256 (held x)
+      unfolding Right
+      opened-slot (Page plain) b e = (opened-page plain b, b)
+      opened-slot (Raw bytes) r e = absurd (true≢false e)
+
+      pub looked-there : not (looked (deciphered t) bank page (record_at G bank page (image_of t G slots))) ≡ is_raw (slot_of G bank page slots)
+      looked-there =
+          ap (λ (r : List ℕ). not (looked (deciphered t) bank page r)) record-there ∙ looked-slot (slot_of G bank page slots) right-there
+
+      pub opened-there :
+          is_raw (slot_of G bank page slots) ≡ false
+          → (page_of (deciphered t) (record_at G bank page (image_of t G slots)) ≡ held (slot_of G bank page slots)) × Bytes 256 (held (slot_of G bank page slots))
+      opened-there e =
+          let o = opened-slot (slot_of G bank page slots) right-there e in (ap (page_of (deciphered t)) record-there ∙ o.0, o.1)
