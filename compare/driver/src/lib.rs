@@ -1,0 +1,6 @@
+//! What the comparison and the bench share: a call, the library that makes it, the crate that makes it too, and random numbers.
+
+pub mod call;
+pub mod library;
+pub mod oracle;
+pub mod random;

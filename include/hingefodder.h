@@ -1,0 +1,83 @@
+/* hingefodder.h: Twofish and the sealed bank image, for a host in C.
+
+   An image is a row of records, one for each page of each bank: the record of page p of bank b is the one at slot b * pages + p. A record is a
+   page of 256 bytes, enciphered together with its place, in 272 bytes. An image has no header, so the host keeps its geometry (pages per bank,
+   and banks) and lends it with each call.
+
+   For every call:
+
+   - A key comes as its bytes: 16, 24 or 32 of them. The library keeps nothing between calls, and takes no memory.
+   - A buffer comes as a pointer and then its length. A buffer of length 0 may come with a null pointer.
+   - The buffers lent to one call must not overlap.
+   - Any number is taken and judged. A call that is refused answers the number of its refusal and count 0, and changes no byte of any buffer.
+     Where several refusals hold, the lowest number is given.
+   - Erasing a key after use is the host's own task: its own copy, and what the call left on the stack below the host's frame.
+
+   The text for each number is in hingefodder_text.h. */
+
+#ifndef HINGEFODDER_H
+#define HINGEFODDER_H
+
+#include <stddef.h>
+#include <stdint.h>
+
+#ifdef __cplusplus
+extern "C" {
+#endif
+
+#define HF_VERSION "0.1.0"
+
+#define HF_BLOCK 16      /* bytes of a block */
+#define HF_PAGE 256      /* plain bytes of a page */
+#define HF_RECORD 272    /* bytes of a record: the place block and a page, 17 blocks */
+#define HF_PAGES_MAX 256 /* pages of a bank, at most */
+#define HF_BANKS_MAX 256 /* banks of an image, at most */
+
+/* The bytes of an image, for a geometry that is not refused. */
+#define HF_IMAGE(pages, banks) ((size_t)HF_RECORD * (size_t)(pages) * (size_t)(banks))
+
+/* What a call answers in `number`: done, or why it was refused. */
+enum hf_number {
+    HF_DONE = 0,         /* done */
+    HF_KEY_LENGTH = 1,   /* the key is not 16, 24 or 32 bytes */
+    HF_SCHEDULE = 2,     /* the schedule came from no key; never answered to a host, which lends keys: 1 takes its place */
+    HF_BLOCK_LENGTH = 3, /* the block is not 16 bytes */
+    HF_GEOMETRY = 4,     /* pages or banks is 0 or above 256 */
+    HF_IMAGE_LENGTH = 5, /* the image is not 272 * pages * banks bytes */
+    HF_PLACE = 6,        /* bank, page or offset lies outside the geometry */
+    HF_LENGTH = 7,       /* the length is 0 or above 256, or the bytes run past the page's end */
+    HF_OTHER_RECORD = 8  /* the record does not open to its own place: another key, another place, or changed bytes */
+};
+
+/* `number` is one of enum hf_number; `count` is how many blocks were enciphered and written. */
+typedef struct hf_answer {
+    uint32_t number;
+    uint32_t count;
+} hf_answer;
+
+/* Enciphers the block where it lies. Refused by 1 and 3. Count 0. */
+hf_answer hf_encipher(const uint8_t *key, size_t key_length, uint8_t *block, size_t block_length);
+
+/* Deciphers the block where it lies. Refused by 1 and 3. Count 0. */
+hf_answer hf_decipher(const uint8_t *key, size_t key_length, uint8_t *block, size_t block_length);
+
+/* Seals 1 to 256 plain bytes as page `page` of bank `bank`; a short page is filled at its end with zeros. The record that was there is replaced
+   without a look at it. Refused by 1, 4, 5, 6 (bank, page) and 7. Count 17. */
+hf_answer hf_seal(const uint8_t *key, size_t key_length, uint32_t pages, uint32_t banks, uint8_t *image, size_t image_length,
+                  uint32_t bank, uint32_t page, const uint8_t *plain, size_t plain_length);
+
+/* Fills `out` with 1 to 256 plain bytes of bank `bank` from `offset` on (0 to 256 * pages - 1), all inside one page. The image stays as it is.
+   Refused by 1, 4, 5, 6 (bank, offset), 7 and 8. Count 0. */
+hf_answer hf_read(const uint8_t *key, size_t key_length, uint32_t pages, uint32_t banks, const uint8_t *image, size_t image_length,
+                  uint32_t bank, uint32_t offset, uint8_t *out, size_t out_length);
+
+/* Replaces 1 to 256 plain bytes of bank `bank` from `offset` on, all inside one page, and re-enciphers from the first block written into.
+   Refused by 1, 4, 5, 6 (bank, offset), 7 and 8. Count 16 - p / 16, where p is the first byte's place in its page. */
+hf_answer hf_patch(const uint8_t *key, size_t key_length, uint32_t pages, uint32_t banks, uint8_t *image, size_t image_length,
+                   uint32_t bank, uint32_t offset, const uint8_t *bytes, size_t bytes_length);
+
+#ifdef __cplusplus
+}
+#endif
+
+#endif
