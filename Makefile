@@ -8,12 +8,13 @@ HEADERS := include/hingefodder.h include/hingefodder_text.h
 TOOL    := $(wildcard tools/hf/*.c)
 VERSION := $(shell sed -n 's/^\#define HF_VERSION "\(.*\)"/\1/p' include/hingefodder.h)
 
-.PHONY: help test library tools check-tools demo compare bench install
+.PHONY: help test library tools lister check-tools demo compare bench install
 
 help:
 	@echo 'make test         the gate: prove every crate, try the must-fail edits, run the programs'
 	@echo 'make library      the library for a C host, build/libhingefodder.a; the headers are in include/'
 	@echo 'make tools        the command hf for the bench, build/hf'
+	@echo 'make lister       the lister of records on standard input, build/lister'
 	@echo 'make check-tools  the tests of hf and of the headers'
 	@echo 'make demo         hf at work on a small image'
 	@echo 'make compare      the library beside the crate and beside other libraries, on many random calls'
@@ -24,7 +25,7 @@ test:
 	@echo 'The gate: every crate that has not passed here is proved from nothing, which takes some minutes.'
 	.ci/run
 
-# The library: the only rule of these that needs the Rattle kit.
+# The library and the lister need the Rattle kit.
 $(LIBRARY): $(shell find crates -path '*/src/*.rt')
 	@echo 'The library: its crates are proved first where they have not passed here, which takes some minutes.'
 	cd crates/host && rt lib
@@ -44,6 +45,14 @@ build/hf-watched: $(TOOL) tools/hf/hf.h $(HEADERS) $(LIBRARY)
 
 tools: build/hf
 
+build/lister: $(shell find crates -path '*/src/*.rt')
+	@echo 'The lister: its crates are proved first where they have not passed here, which takes some minutes.'
+	cd crates/lister && rt run </dev/null >/dev/null
+	@mkdir -p build
+	cp crates/lister/out/lister $@
+
+lister: build/lister
+
 check-tools: build/hf build/hf-watched
 	CC='$(CC)' tools/test build/hf $(LIBRARY)
 	CC='$(CC) -fsanitize=address,undefined' tools/test build/hf-watched $(LIBRARY)
@@ -55,8 +64,8 @@ demo: build/hf
 compare: $(LIBRARY)
 	compare/run long
 
-bench: $(LIBRARY)
-	compare/run bench
+bench: $(LIBRARY) build/lister
+	HF_LISTER=build/lister compare/run bench
 
 install: build/hf
 	install -d '$(DESTDIR)$(PREFIX)/bin' '$(DESTDIR)$(PREFIX)/include' '$(DESTDIR)$(PREFIX)/lib/pkgconfig' '$(DESTDIR)$(PREFIX)/share/man/man1'

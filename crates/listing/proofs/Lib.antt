@@ -1,0 +1,3 @@
+pub mod StreamLaws
+pub mod ListingLaws
+pub mod Unique

@@ -1,0 +1,3 @@
+pub mod Slot
+pub mod Listing
+pub mod Streams
