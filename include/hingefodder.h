@@ -6,7 +6,7 @@
 
    For every call:
 
-   - A key comes as its bytes: 16, 24 or 32 of them. The library keeps nothing between calls, and takes no memory.
+   - A key comes as its bytes: 16, 24 or 32 of them. The library keeps nothing between calls, and takes no memory but stack.
    - A buffer comes as a pointer and then its length. A buffer of length 0 may come with a null pointer.
    - The buffers lent to one call must not overlap.
    - Any number is taken and judged. A call that is refused answers the number of its refusal and count 0, and changes no byte of any buffer.

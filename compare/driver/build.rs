@@ -1,4 +1,5 @@
-//! Links each program with the library under test, and the bench with what it is held beside as well. `compare/run` sets both variables.
+//! Links each program with the library under test, and the bench with what it is held beside as well. `compare/run` sets both variables;
+//! the second has a word on each line.
 
 use std::env;
 
@@ -9,7 +10,7 @@ fn main() {
     println!("cargo::rerun-if-changed={library}");
     println!("cargo::rerun-if-env-changed=HF_LIBRARY");
     println!("cargo::rerun-if-env-changed=HF_OTHERS");
-    for word in others.split_whitespace() {
+    for word in others.lines() {
         println!("cargo::rustc-link-arg-bin=bench={word}");
         if word.ends_with(".o") {
             println!("cargo::rerun-if-changed={word}");

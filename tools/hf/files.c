@@ -50,12 +50,12 @@ void want_replaceable(const char *name)
 }
 
 /* Keeps other runs of hf from changing the file until this one ends, so that none loses the other's change. A file that is replaced while
-   this one waits is opened anew. A file that is not there needs no lock. */
+   this one waits is opened anew. A file that is not there needs no lock. It is opened for writing too, since a file of NFS is only locked so. */
 void lock_file(const char *name)
 {
     struct stat held, named;
     for (;;) {
-        int file = open(name, O_RDONLY | O_CLOEXEC);
+        int file = open(name, O_RDWR | O_CLOEXEC);
         if (file < 0 && errno == ENOENT)
             return;
         if (file < 0)
@@ -143,10 +143,22 @@ void replace_file(const char *name, const uint8_t *bytes, size_t length)
     sync_directory(name, path);
 }
 
-/* Replaces an ordinary file, or writes to a device or pipe. */
+/* Whether the file is an ordinary one that is standard output, as /dev/stdout may be. */
+static bool is_standard_output(const char *name)
+{
+    struct stat state, output;
+    return stat(name, &state) == 0 && fstat(STDOUT_FILENO, &output) == 0 && S_ISREG(state.st_mode) && state.st_dev == output.st_dev &&
+           state.st_ino == output.st_ino;
+}
+
+/* Replaces an ordinary file, or writes to a device or pipe. A file that is standard output is not replaced: what it holds already stays. */
 void write_file(const char *name, const uint8_t *bytes, size_t length)
 {
     struct stat state;
+    if (is_standard_output(name)) {
+        put_bytes(bytes, length);
+        return;
+    }
     if (stat(name, &state) != 0 || S_ISREG(state.st_mode) || S_ISDIR(state.st_mode)) {
         want_replaceable(name);
         replace_file(name, bytes, length);

@@ -17,6 +17,7 @@ int main(int count, char **words)
 {
     hold_standard_files();
     signal(SIGPIPE, SIG_IGN);
+    signal(SIGXFSZ, SIG_IGN); /* a write that fails is told, and the new file removed */
     tidy_at_the_end();
     progress_begin();
     struct request request = request_of(count, words);

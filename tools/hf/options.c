@@ -23,6 +23,16 @@ static enum option option_named(const char *word, size_t length)
     return OPTIONS;
 }
 
+/* Ends with an error on a word that names no option. A value may stand in it without a blank: of one letter no more is shown, and of an option
+   only its name. */
+static _Noreturn void fail_option(const struct command *command, const char *word, size_t length)
+{
+    for (size_t part = length; part > 1; part--)
+        if (option_named(word, part) != OPTIONS)
+            fail_usage(command, "%.*s needs a blank or = before its value", (int)part, word);
+    fail_usage(command, "there is no option %.*s", word[1] != '-' ? 2 : (int)length, word);
+}
+
 /* Takes the option at hand, and its value. An error shows no value, since it may be a key. */
 static void take_option(struct words *words, struct request *request)
 {
@@ -30,7 +40,7 @@ static void take_option(struct words *words, struct request *request)
     size_t length = strcspn(word, "=");
     enum option option = option_named(word, length);
     if (option == OPTIONS)
-        fail_usage(request->command, "there is no option %.*s", (int)length, word);
+        fail_option(request->command, word, length);
     if (request->option[option] != NULL)
         fail_usage(request->command, "%s is given twice", NAMES[option]);
     if (word[length] == '=') {

@@ -2,13 +2,15 @@
 
 #include "hf.h"
 
+#include <signal.h>
 #include <time.h>
 #include <unistd.h>
 
 enum { WIDTH = 40 };
 static const double FIRST = 0.5, NEXT = 0.1; /* seconds */
 
-static bool on_terminal, drawn;
+static bool on_terminal;
+static volatile sig_atomic_t drawn;
 static double begun, last;
 
 static double now(void)
@@ -36,15 +38,16 @@ void progress(const char *work, size_t done, size_t all)
     for (size_t i = 0; i < WIDTH; i++)
         bar[i] = i < WIDTH * done / all ? '#' : '.';
     bar[WIDTH] = '\0';
+    drawn = true;
     fprintf(stderr, "\r%s [%s] %3zu%%", work, bar, 100 * done / all);
     last = time;
-    drawn = true;
 }
 
-/* Takes the bar off the terminal. */
+/* Takes the bar off the terminal; by a system call, since a stopping signal does it too. */
 void progress_end(void)
 {
-    if (drawn)
-        fputs("\r\033[K", stderr);
+    static const char OFF[] = "\r\033[K";
+    if (drawn && write(STDERR_FILENO, OFF, sizeof OFF - 1) < 0)
+        return;
     drawn = false;
 }

@@ -26,6 +26,7 @@ static void tidy(void)
 
 static void stop(int number)
 {
+    progress_end();
     tidy();
     signal(number, SIG_DFL);
     raise(number);

@@ -1,11 +1,11 @@
 -- The two directions undo each other: a round and a round undone, the sixteen rounds, whitening, the words of a block, a block.
-use Rattle.std.proofs.Common.{◌≡◌, ℕ, zero, suc, ◌^◌, ◌<◌, refl, ap, ◌∙◌, arith, lit≤}
+use Rattle.std.proofs.Common.{◌≡◌, ℕ, zero, suc, ◌+◌, ◌^◌, ◌<◌, refl, ap, ◌∙◌, arith, lit≤}
 use lib.Bits.{bit_xor, xor_lt}
 use Rattle.words.specs.Word.{rol, ror}
 use Rattle.words.proofs.Xor.{xor_cancel}
 use Rattle.words.proofs.Rotate.{rol-ror, ror-rol, rol-lt, ror-lt}
 use Rattle.block.specs.declared.Words.{Words}
-use Rattle.block.specs.Rounds.{f₀, f₁, round, unround, rounds, unrounds, whiten, leave, enter, enciphered_words, deciphered_words}
+use Rattle.block.specs.Rounds.{f₀, f₁, round, unround, rounds, unrounds, keyed, swapped, whiten, leave, enter, enciphered_words, deciphered_words}
 
 -- each of the four is a word
 pub record AreWords (w : Words) : Type 0 where
@@ -92,49 +92,47 @@ module _ (g : ℕ → ℕ) where
         ap (round g _ _) (rounds-unrounds n _ (unround-words _ _ w h)) ∙ round-unround _ _ w h
 
 -- ---- whitening
+swapped-words : (w : Words) → AreWords w → AreWords (swapped w)
+swapped-words w h = record { a = h.c; b = h.d; c = h.a; d = h.b }
+
 module _ (K : ℕ → ℕ) where
-  pub whiten-whiten : (w : Words) → whiten K (whiten K w) ≡ w
+  -- subkeys added twice
+  keyed-keyed : (i : ℕ) (w : Words) → keyed K i (keyed K i w) ≡ w
+  keyed-keyed i w = rw (xor_cancel w.a (K i), xor_cancel w.b (K (i + 1)), xor_cancel w.c (K (i + 2)), xor_cancel w.d (K (i + 3)))
+
+  whiten-whiten : (w : Words) → whiten K (whiten K w) ≡ w
   unfolding whiten
-  whiten-whiten w = rw (xor_cancel w.a (K 0), xor_cancel w.b (K 1), xor_cancel w.c (K 2), xor_cancel w.d (K 3))
+  whiten-whiten w = keyed-keyed 0 w
 
-  pub enter-leave : (w : Words) → enter K (leave K w) ≡ w
+  enter-leave : (w : Words) → enter K (leave K w) ≡ w
   unfolding enter leave
-  enter-leave w = rw (xor_cancel w.a (K 6), xor_cancel w.b (K 7), xor_cancel w.c (K 4), xor_cancel w.d (K 5))
+  enter-leave w = ap swapped (keyed-keyed 4 (swapped w))
 
-  pub leave-enter : (w : Words) → leave K (enter K w) ≡ w
+  leave-enter : (w : Words) → leave K (enter K w) ≡ w
   unfolding enter leave
-  leave-enter w = rw (xor_cancel w.a (K 4), xor_cancel w.b (K 5), xor_cancel w.c (K 6), xor_cancel w.d (K 7))
+  leave-enter w = keyed-keyed 4 w
 
   module _ (word : (i : ℕ) → K i < 2 ^ 32) where
+    keyed-words : (i : ℕ) (w : Words) → AreWords w → AreWords (keyed K i w)
+    keyed-words i w h =
+        record {
+          a = xor_lt 32 _ _ h.a (word i);
+          b = xor_lt 32 _ _ h.b (word (i + 1));
+          c = xor_lt 32 _ _ h.c (word (i + 2));
+          d = xor_lt 32 _ _ h.d (word (i + 3));
+        }
+
     whiten-words : (w : Words) → AreWords w → AreWords (whiten K w)
     unfolding whiten
-    whiten-words w h =
-        record {
-          a = xor_lt 32 _ _ h.a (word 0);
-          b = xor_lt 32 _ _ h.b (word 1);
-          c = xor_lt 32 _ _ h.c (word 2);
-          d = xor_lt 32 _ _ h.d (word 3);
-        }
+    whiten-words w h = keyed-words 0 w h
 
     enter-words : (w : Words) → AreWords w → AreWords (enter K w)
     unfolding enter
-    enter-words w h =
-        record {
-          a = xor_lt 32 _ _ h.c (word 6);
-          b = xor_lt 32 _ _ h.d (word 7);
-          c = xor_lt 32 _ _ h.a (word 4);
-          d = xor_lt 32 _ _ h.b (word 5);
-        }
+    enter-words w h = swapped-words _ (keyed-words 4 w h)
 
     leave-words : (w : Words) → AreWords w → AreWords (leave K w)
     unfolding leave
-    leave-words w h =
-        record {
-          a = xor_lt 32 _ _ h.c (word 4);
-          b = xor_lt 32 _ _ h.d (word 5);
-          c = xor_lt 32 _ _ h.a (word 6);
-          d = xor_lt 32 _ _ h.b (word 7);
-        }
+    leave-words w h = keyed-words 4 _ (swapped-words w h)
 
     -- ---- the four words of a block
     module _ (g : ℕ → ℕ) where

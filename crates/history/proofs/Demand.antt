@@ -1,18 +1,19 @@
 -- Demand 3: any series of calls on a sealed image goes as on its plain image, and leaves the sealing afresh of that.
-use Rattle.std.proofs.Common.{◌≡◌, ◌≢◌, ℕ, List, length, All, sym, ap, subst, ◌∙◌}
+use Rattle.std.proofs.Common.{◌≡◌, ◌≢◌, ℕ, true, List, length, All, sym, ap, subst, ◌∙◌}
 use Rattle.twofish.specs.declared.Twofish.{Twofish}
 use Rattle.twofish.specs.Answers.{answer}
 use Rattle.block.specs.Block.{Schedule}
 use Rattle.spans.proofs.BytesLaws.{AllBytes}
 use Rattle.sealed.specs.declared.Geometry.{Geometry}
-use Rattle.sealed.specs.Image.{image_length}
+use Rattle.sealed.specs.Image.{in_range, image_length}
 use Rattle.history.specs.Calls.{Call, WritesBytes, on_image, outcome, outcomes, at_end}
 use Rattle.history.specs.Slots.{Slot, on_slots, image_of, Slots, slots_of}
-use Rattle.history.specs.Pages.{on_pages, sealing, Pages}
+use Rattle.history.specs.Pages.{on_pages, sealing, Pages, Readable, pages_of}
 use Rattle.history.proofs.RunLaws.{Goes, goes, All-outcomes}
 use Rattle.history.proofs.ImageSteps.{image_follows}
 use Rattle.history.proofs.PageSteps.{as_slots, pages_follow, image_of-pages, slots-pages, never_eight}
 use Rattle.history.proofs.ViewLaws.{image_of-slots_of}
+use Rattle.history.proofs.ReadableLaws.{sealing-pages_of, sealing-readable}
 
 -- any calls, refused or done, under any schedule of words; no call is done under a start above 2 or a geometry out of range
 module _ (t : Twofish) (G : Geometry) (s : Schedule t) (calls : List Call) (bytes : All WritesBytes calls) where
@@ -65,3 +66,21 @@ module _ (t : Twofish) (G : Geometry) (s : Schedule t) (calls : List Call) (byte
     unfolding outcome answer
     no_eight =
         subst (All (λ o. o.answer.number ≢ 8)) (sym plain_outcomes) (All-outcomes (on_pages t G) (λ o. o.answer.number ≢ 8) (λ c y. never_eight t G c) calls pages)
+
+  -- so on any image whose every record is of its place, which is the sealing afresh of its pages
+  module _ (image : List ℕ) (h : Readable t G image) where
+    pub readable_outcomes : outcomes (on_image t G) calls image ≡ outcomes (on_pages t G) calls (pages_of t G image)
+    readable_outcomes =
+        let p = sealing-pages_of t G s image h in
+        ap (outcomes (on_image t G) calls) (sym p.0) ∙ plain_outcomes (pages_of t G image) p.1
+
+    pub readable_image : at_end (on_image t G) calls image ≡ sealing t G (at_end (on_pages t G) calls (pages_of t G image))
+    readable_image =
+        let p = sealing-pages_of t G s image h in
+        ap (at_end (on_image t G) calls) (sym p.0) ∙ plain_image (pages_of t G image) p.1
+
+    -- and every record is of its place still
+    pub still_readable : in_range G ≡ true → Readable t G (at_end (on_image t G) calls image)
+    still_readable g =
+        let p = sealing-pages_of t G s image h in
+        subst (Readable t G) (sym readable_image) (sealing-readable t G s g (at_end (on_pages t G) calls (pages_of t G image)) (all_readable (pages_of t G image) p.1))

@@ -10,12 +10,14 @@ use Rattle.block.specs.Block.{enciphered, deciphered, Schedule}
 use Rattle.sealed.specs.declared.Geometry.{Geometry}
 use Rattle.sealed.specs.Record.{filled, looked, page_of}
 use Rattle.sealed.specs.Image.{slot, image_length, offset_reached, within_page, record_at, refusals, seal_number, access_number, sealed_in, patched_in, read_from}
+use Rattle.sealed.proofs.ImageLaws.{There, takes}
+use Rattle.sealed.proofs.AccessLaws.{Opens}
 use Rattle.sealed.proofs.OpenLaws.{filled-page}
 use Rattle.sealed.proofs.PageLaws.{filled-bytes, patched-bytes}
 use Rattle.history.specs.Calls.{Call, Seal, Patch, Read, WritesBytes, before_look, image_number, image_bytes, image_next, on_image}
 use Rattle.history.specs.Slots.{Slot, Page, is_raw, held, slot_of, slot_access, slots_number, slots_bytes, slots_next, on_slots, image_of, Slots}
 use Rattle.history.proofs.RunLaws.{Follows}
-use Rattle.history.proofs.PlaceLaws.{There, seal_fits, Reaches, reaches}
+use Rattle.history.proofs.PlaceLaws.{reaches}
 use Rattle.history.proofs.SlotLaws.{image_of-length, set-there, sealed_in-there, looked-there, opened-there}
 
 module _ (t : Twofish) (G : Geometry) (s : Schedule t) (slots : List Slot) (h : Slots t G slots) where
@@ -50,7 +52,7 @@ module _ (t : Twofish) (G : Geometry) (s : Schedule t) (slots : List Slot) (h : 
           let k = given_other 0 (before_look t G bank offset n) (8 when is_raw (slot_of G bank (offset / 256) slots) ∷ []) tt e in
           (given_after (before_look t G bank offset n) [] k.0, (given_none 7 _ [] k.1).0)
 
-      reached : Reaches G bank offset n
+      reached : Opens t G (image_length G) bank offset n
       reached = reaches t G bank offset n passed.0
 
       opened : (page_of (deciphered t) (record_at G bank (offset / 256) image) ≡ plain_page) × Bytes 256 plain_page
@@ -83,13 +85,13 @@ module _ (t : Twofish) (G : Geometry) (s : Schedule t) (slots : List Slot) (h : 
   -- a seal that is done
   module _ (bank page : ℕ) (plain : List ℕ) (b : AllBytes plain) (e : seal_number t G (image_length G) bank page (length plain) ≡ 0) where
     page-made : Bytes 256 (filled plain)
-    page-made = filled-bytes plain (seal_fits t G bank page (length plain) e).fits b
+    page-made = filled-bytes plain (takes e).fits b
 
     same_seal : sealed_in (enciphered t) G bank page plain image ≡ image_of t G (set slots (slot G bank page) (Page (filled plain)))
-    same_seal = sealed_in-there t G s slots h bank page (seal_fits t G bank page (length plain) e).there plain (filled plain) refl page-made
+    same_seal = sealed_in-there t G s slots h bank page (takes e).there plain (filled plain) refl page-made
 
     kept_seal : Slots t G (set slots (slot G bank page) (Page (filled plain)))
-    kept_seal = set-there t G s slots h bank page (seal_fits t G bank page (length plain) e).there (filled plain) page-made
+    kept_seal = set-there t G s slots h bank page (takes e).there (filled plain) page-made
 
   pub image_follows : (c : Call) → WritesBytes c → Follows (on_image t G) (on_slots t G) (image_of t G) (Slots t G) c slots
   unfolding WritesBytes image_number image_bytes image_next slots_number slots_bytes slots_next

@@ -6,4 +6,5 @@ pub mod ImageSteps
 pub mod ViewLaws
 pub mod Promised
 pub mod PageSteps
+pub mod ReadableLaws
 pub mod Demand

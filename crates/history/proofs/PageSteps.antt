@@ -10,6 +10,7 @@ use Rattle.block.specs.Block.{enciphered}
 use Rattle.sealed.specs.declared.Geometry.{Geometry}
 use Rattle.sealed.specs.Record.{filled, sealed}
 use Rattle.sealed.specs.Image.{slot, refusals, seal_number}
+use Rattle.sealed.proofs.ImageLaws.{There, slot-within, takes}
 use Rattle.sealed.proofs.PageLaws.{filled-bytes, patched-bytes}
 use Rattle.history.specs.Calls.{Call, Seal, Patch, Read, WritesBytes, before_look}
 use Rattle.history.specs.Order.{in_order, Each}
@@ -17,7 +18,7 @@ use Rattle.history.specs.Slots.{Slot, Page, Raw, is_raw, held, slot_of, slot_acc
 use Rattle.history.specs.Pages.{pages_number, page_at, plain_bytes, applied, on_pages, sealing, Pages}
 use Rattle.history.proofs.OrderLaws.{Each-at, Each-set}
 use Rattle.history.proofs.RunLaws.{Follows}
-use Rattle.history.proofs.PlaceLaws.{There, slot-within, seal_fits, reaches}
+use Rattle.history.proofs.PlaceLaws.{reaches}
 
 -- the slots of pages
 abbrev pub as_slots : List (List ℕ) → List Slot
@@ -51,7 +52,7 @@ module _ (t : Twofish) (G : Geometry) where
       within : at < length pages
       within = subst (λ (n : ℕ). at < n) (sym h.count) (slot-within there)
 
-      slot_of-pages : slot_of G bank page (as_slots pages) ≡ Page (get_or pages at [])
+      pub slot_of-pages : slot_of G bank page (as_slots pages) ≡ Page (get_or pages at [])
       unfolding slot_of
       slot_of-pages = get_or-map (λ page. Page page) pages at [] (Raw []) within
 
@@ -81,7 +82,7 @@ module _ (t : Twofish) (G : Geometry) where
           number = refl;
           bytes = λ e. refl;
           next = λ e. sym (map-set (λ page. Page page) pages (slot G bank page) (filled plain));
-          keeps = λ e. let k = seal_fits t G bank page (length plain) e in set-page bank page k.there (filled plain) (filled-bytes plain k.fits b);
+          keeps = λ e. let k = takes e in set-page bank page k.there (filled plain) (filled-bytes plain k.fits b);
         }
     pages_follow (Patch bank offset bytes) b =
         record {

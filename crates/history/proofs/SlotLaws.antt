@@ -9,12 +9,12 @@ use Rattle.sealed.specs.declared.Geometry.{Geometry}
 use Rattle.sealed.specs.Cbc.{cbc}
 use Rattle.sealed.specs.Record.{place_block, filled, sealed, looked, page_of}
 use Rattle.sealed.specs.Image.{slot, image_length, record_at, sealed_in}
+use Rattle.sealed.proofs.ImageLaws.{There, slot-within, slot-bank, slot-page, bank_byte, page_byte}
 use Rattle.sealed.proofs.RecordLaws.{sealed-length}
 use Rattle.sealed.proofs.OpenLaws.{filled-page}
 use Rattle.sealed.proofs.PageLaws.{page_of-sealed, looked-sealed}
 use Rattle.history.specs.Order.{Each}
 use Rattle.history.specs.Slots.{Slot, Page, Raw, is_raw, held, slot_of, slot_record, image_of, Right, Slots}
-use Rattle.history.proofs.PlaceLaws.{There, slot-within, slot-bank, slot-page, bank_byte, page_byte}
 use Rattle.history.proofs.OrderLaws.{Each-at, Each-set, Each-map, in_order-length, record-in_order, splice-in_order}
 
 module _ (t : Twofish) (G : Geometry) (s : Schedule t) where

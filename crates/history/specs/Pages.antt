@@ -1,13 +1,13 @@
 -- The plain image where every record is readable: its pages in slot order, what calls do to it, and its sealing afresh.
-use Rattle.std.specs.Prelude.{◌≡◌, List, [], ℕ, ◌*◌, ◌/◌, ◌%◌, length, take, drop, set, get_or}
+use Rattle.std.specs.Prelude.{◌≡◌, true, List, [], ◌∷◌, ℕ, zero, suc, ◌*◌, ◌/◌, ◌%◌, ◌<◌, length, take, drop, set, get_or}
 use Rattle.spans.specs.Bytes.{Bytes}
 use Rattle.spans.specs.Parts.{splice}
 use Rattle.spans.specs.Refusals.{given}
 use Rattle.twofish.specs.declared.Twofish.{Twofish}
-use Rattle.block.specs.Block.{enciphered}
+use Rattle.block.specs.Block.{enciphered, deciphered}
 use Rattle.sealed.specs.declared.Geometry.{Geometry}
-use Rattle.sealed.specs.Record.{filled, sealed}
-use Rattle.sealed.specs.Image.{slot, image_length, seal_number}
+use Rattle.sealed.specs.Record.{filled, sealed, looked, page_of}
+use Rattle.sealed.specs.Image.{slot, image_length, record_at, seal_number}
 use Rattle.history.specs.Calls.{Call, Seal, Patch, Read, Acts, before_look}
 use Rattle.history.specs.Order.{in_order, Each}
 
@@ -44,3 +44,18 @@ sealing t G pages = in_order (λ s page. sealed (enciphered t) (s / G.pages) (s 
 pub record Pages (G : Geometry) (pages : List (List ℕ)) : Type 0 where
   pub count : length pages ≡ G.pages * G.banks
   pub each : Each (λ s page. Bytes 256 page) 0 pages
+
+-- an image of a geometry whose every record is of its place
+pub record Readable (t : Twofish) (G : Geometry) (image : List ℕ) : Type 0 where
+  pub long : length image ≡ image_length G
+  pub byte : (i : ℕ) → get_or image i 0 < 256
+  pub own : (bank page : ℕ) → bank < G.banks → page < G.pages → looked (deciphered t) bank page (record_at G bank page image) ≡ true
+
+-- the pages that the first n records hold
+unfoldable pub first_pages : Twofish → ℕ → List ℕ → List (List ℕ)
+first_pages t zero image = []
+first_pages t (suc n) image = page_of (deciphered t) (take 272 image) ∷ first_pages t n (drop 272 image)
+
+-- the pages of an image
+unfoldable pub pages_of : Twofish → Geometry → List ℕ → List (List ℕ)
+pages_of t G image = first_pages t (G.pages * G.banks) image

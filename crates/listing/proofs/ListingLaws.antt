@@ -1,14 +1,13 @@
 -- Laws of the opening, of a slot's line, and of the whole listing.
-use Rattle.std.proofs.Common.{◌≡◌, ℕ, ◌+◌, ◌*◌, ◌<◌, ◌≤◌, ◌^◌, Bool, true, false, cond, Option, Some, None, List, [], ◌∷◌, ◌++◌, refl, ap, ap₂, ◌∙◌, length, take, drop, get_or, length-take, length-drop, add-one, arith}
+use Rattle.std.proofs.Common.{◌≡◌, ℕ, ◌+◌, ◌*◌, ◌<◌, ◌≤◌, Bool, true, false, cond, Option, Some, None, List, [], ◌∷◌, ◌++◌, refl, ap, ap₂, ◌∙◌, length, take, drop, get_or, length-take, length-drop, add-one, arith}
 use Rattle.std.specs.Prelude.{Result, Ok, Err, codes}
 use Rattle.std.specs.Result.{result_unwrap_or}
 use Rattle.std.specs.Int.{from_bool}
-use borrow.Author.Tests.{lt-ltb, le-ltb, le-leb}
+use borrow.Author.Tests.{lt-ltb, le-ltb}
 use Rattle.twofish.specs.declared.Twofish.{Twofish}
 use Rattle.twofish.specs.declared.Refusal.{Refusal}
 use Rattle.twofish.specs.Schedule.{refused, handed_back}
 use Rattle.sealed.specs.declared.Geometry.{Geometry}
-use Rattle.sealed.specs.Image.{up_to_256, in_range}
 use Rattle.listing.specs.declared.Opening.{Opening}
 use Rattle.listing.specs.declared.Verdict.{Verdict}
 use Rattle.listing.specs.Slot.{opening_length, opening, slots, bank_of, page_of, verdict, slot_verdict, is_right}
@@ -20,15 +19,6 @@ pub schedule-handed : (r : Result Twofish Refusal) → result_unwrap_or r refuse
 unfolding handed_back
 schedule-handed (Ok t) = refl
 schedule-handed (Err e) = refl
-
-up_to_256-byte : (b : ℕ) → b < 2 ^ 8 → up_to_256 (b + 1) ≡ true
-unfolding up_to_256
-up_to_256-byte b h = simp (lt-ltb 0 (b + 1) (omega arith), le-leb (b + 1) 256 (omega arith))
-
--- a byte pages - 1 and a byte banks - 1 are a geometry in range
-pub in_range-bytes : (a b : ℕ) → a < 2 ^ 8 → b < 2 ^ 8 → in_range (record { pages = a + 1; banks = b + 1 }) ≡ true
-unfolding in_range
-in_range-bytes a b p q = simp (up_to_256-byte a p, up_to_256-byte b q)
 
 -- ---- a slot
 -- the bytes of a line, from those that are written

@@ -5,21 +5,45 @@ use borrow.Author.Tests.{lt-ltb, ltb-true, not-false}
 use Rattle.spans.specs.Refusals.{Line, ◌when◌, given}
 use Rattle.spans.proofs.RefusalLaws.{NoneHolds, given_after, given_kept, given_none, given_other}
 use Rattle.twofish.specs.declared.Twofish.{Twofish}
+use Rattle.twofish.specs.Answers.{answer}
 use Rattle.block.specs.Block.{deciphered}
 use Rattle.sealed.specs.declared.Geometry.{Geometry}
 use Rattle.sealed.specs.Record.{looked}
-use Rattle.sealed.specs.Image.{in_range, reached, offset_reached, within_page, slot, image_length, record_at, refusals, access_number}
-use Rattle.sealed.proofs.ImageLaws.{both, record_slice, up_to_256-true, few_records, slot-room, taken}
+use Rattle.sealed.specs.Image.{reached, offset_reached, within_page, slot, record_at, refusals, access_number}
+use Rattle.sealed.proofs.ImageLaws.{both, up_to_256-true, There, slot-room, taken, record_slice, slice-length}
+use Rattle.sealed.proofs.OutcomeLaws.{done_count}
 
 -- what holds of a call that is taken up to its look
 pub record Opens (t : Twofish) (G : Geometry) (long bank offset n : ℕ) : Type 0 where
   pub start : t.start ≤ 2
-  pub geometry : in_range G ≡ true
+  pub there : There G bank (offset / 256)
   pub reaches : reached G bank (offset / 256) ≡ true
   pub room : 272 * slot G bank (offset / 256) + 272 ≤ long
   pub small : long ≤ 17825792
   pub some : 0 < n
   pub inside : offset % 256 + n ≤ 256
+
+pub opens :
+    {t : Twofish} {G : Geometry} {long bank offset n : ℕ} {placed fits : Bool} → placed ≡ offset_reached G bank offset → fits ≡ within_page offset n
+    → 0 ≡ given (refusals t G long placed fits) → Opens t G long bank offset n
+unfolding offset_reached within_page reached
+opens {t} {G} {long} {bank} {offset} {n} {placed} {fits} p f e =
+    let k = taken t G long placed fits (sym e) in
+    let at = both _ _ (sym p ∙ k.at_place) in
+    let banked : bank < G.banks = ltb-true _ _ at.0 in
+    let within : offset < 256 * G.pages = ltb-true _ _ at.1 in
+    let paged : offset / 256 < G.pages = omega (arith, within) in
+    let there : There G bank (offset / 256) = record { geometry = k.geometry; banked = banked; paged = paged } in
+    let bytes = both _ _ (sym f ∙ k.fitting) in
+    record {
+      start = k.start;
+      there = there;
+      reaches = ap₂ ◌&&◌ (lt-ltb _ _ banked) (lt-ltb _ _ paged);
+      room = omega (arith, slot-room there, k.whole);
+      small = k.small;
+      some = (up_to_256-true n bytes.0).0;
+      inside = leb-true _ _ bytes.1;
+    }
 
 module _ (t : Twofish) (G : Geometry) (image : List ℕ) (bank offset n : ℕ) {placed fits : Bool} (p : placed ≡ offset_reached G bank offset)
     (f : fits ≡ within_page offset n) where
@@ -62,26 +86,6 @@ module _ (t : Twofish) (G : Geometry) (image : List ℕ) (bank offset n : ℕ) {
       unfolding given
       of_place f = decided true (sym at_record ∙ f)
 
-    pub opens : Opens t G (length image) bank offset n
-    unfolding offset_reached within_page reached image_length
-    opens =
-        let h = taken t G (length image) placed fits (sym k) in
-        let at = both _ _ (sym p ∙ h.at_place) in
-        let hb : bank < G.banks = ltb-true _ _ at.0 in
-        let ho : offset < 256 * G.pages = ltb-true _ _ at.1 in
-        let hp : offset / 256 < G.pages = omega (arith, ho) in
-        let within = both _ _ (sym f ∙ h.fitting) in
-        let few : (0 < n) × (n ≤ 256) = up_to_256-true n within.0 in
-        record {
-          start = h.start;
-          geometry = h.geometry;
-          reaches = ap₂ ◌&&◌ (lt-ltb _ _ hb) (lt-ltb _ _ hp);
-          room = omega (arith, slot-room G bank (offset / 256) hb hp, h.whole);
-          small = omega (arith, few_records G h.geometry, h.whole);
-          some = few.0;
-          inside = leb-true _ _ within.1;
-        }
-
 -- what holds of a call that is taken: all that, and that the record is of its place
 pub accessed :
     (t : Twofish) (G : Geometry) (image : List ℕ) (bank offset n : ℕ) → 0 ≡ access_number t G image bank offset n
@@ -91,4 +95,29 @@ accessed t G image bank offset n e =
     let b : Bool = looked (deciphered t) bank (offset / 256) (record_at G bank (offset / 256) image) in
     let first : List Line = refusals t G (length image) (offset_reached G bank offset) (within_page offset n) in
     let k = given_other 0 first (8 when not b ∷ []) tt (sym e) in
-    (opens t G image bank offset n refl refl (sym (given_after first [] k.0)), not-false b (given_none 7 (not b) [] k.1).0)
+    (opens refl refl (sym (given_after first [] k.0)), not-false b (given_none 7 (not b) [] k.1).0)
+
+-- what holds of a call whose record is found: it begins at `at`
+pub record Found (t : Twofish) (G : Geometry) (image : List ℕ) (bank offset n at : ℕ) : Type 0 where
+  pub done : 0 ≡ access_number t G image bank offset n
+  pub place : at ≡ 272 * slot G bank (offset / 256)
+  pub call : Opens t G (length image) bank offset n
+  pub its_own : looked (deciphered t) bank (offset / 256) (record_at G bank (offset / 256) image) ≡ true
+  pub part : take (at + 272 - at) (drop at image) ≡ record_at G bank (offset / 256) image
+  pub long : length (take (at + 272 - at) (drop at image)) ≡ 272
+
+pub found :
+    {t : Twofish} {G : Geometry} {image : List ℕ} {bank offset n at : ℕ}
+    → record { number = 0; count = at } ≡ answer (access_number t G image bank offset n) (272 * slot G bank (offset / 256))
+    → Found t G image bank offset n at
+found {t} {G} {image} {bank} {offset} {n} {at} e =
+    let d = done_count e in
+    let k = accessed t G image bank offset n d.0 in
+    record {
+      done = d.0;
+      place = d.1;
+      call = k.0;
+      its_own = k.1;
+      part = record_slice G bank (offset / 256) at image d.1;
+      long = slice-length G bank (offset / 256) at image d.1 k.0.room;
+    }

@@ -1,9 +1,10 @@
 -- Laws of a geometry in range, of its images and its slots.
-use Rattle.std.proofs.Common.{◌≡◌, ℕ, suc, ◌+◌, ◌*◌, ◌<◌, ◌≤◌, ◌-◌, List, length, take, drop, length-drop, Bool, true, false, ◌&&◌, refl, sym, ap₂, ◌∙◌, arith}
+use Rattle.std.proofs.Common.{◌≡◌, ℕ, ◌+◌, ◌*◌, ◌/◌, ◌%◌, ◌<◌, ◌≤◌, ◌-◌, List, length, take, drop, length-drop, Bool, true, false, ◌&&◌, refl, sym, ap₂, ◌∙◌, arith}
 use Rattle.std.proofs.lemmas.Bool.{leb-true}
-use borrow.Author.Tests.{ltb-true, ltb-false, eqb-true, not-false}
+use Rattle.std.proofs.lemmas.Nat.{div-mul-add, mod-mul-add, mul-add-lt}
+use borrow.Author.Tests.{lt-ltb, le-leb, ltb-true, ltb-false, eqb-true, not-false}
 use lib.Seq.{length-take-le}
-use native.Mathlib.Nat.{mul-le-mul_right, suc-mul, mul_comm}
+use native.Mathlib.Nat.{mul-le-mul_right}
 use Rattle.sealed.specs.declared.Geometry.{Geometry}
 use Rattle.spans.specs.Refusals.{given}
 use Rattle.sealed.specs.Image.{up_to_256, in_range, reached, slot, image_length, record_at, refusals, seal_number}
@@ -20,86 +21,120 @@ pub up_to_256-true : (n : ℕ) → up_to_256 n ≡ true → (0 < n) × (n ≤ 25
 unfolding up_to_256
 up_to_256-true n e = let b = both _ _ e in (ltb-true _ _ b.0, leb-true _ _ b.1)
 
+-- one more than a byte
+up_to_256-byte : (b : ℕ) → b < 256 → up_to_256 (b + 1) ≡ true
+unfolding up_to_256
+up_to_256-byte b h = simp (lt-ltb 0 (b + 1) (omega arith), le-leb (b + 1) 256 (omega arith))
+
+-- pages and banks that are each one more than a byte
+pub in_range-bytes : (a b : ℕ) → a < 256 → b < 256 → in_range (record { pages = a + 1; banks = b + 1 }) ≡ true
+unfolding in_range
+in_range-bytes a b p q = simp (up_to_256-byte a p, up_to_256-byte b q)
+
 module _ (G : Geometry) (e : in_range G ≡ true) where
-  pub few : (G.pages ≤ 256) × (G.banks ≤ 256)
+  few : (G.pages ≤ 256) × (G.banks ≤ 256)
   unfolding in_range
   few = let b = both _ _ e in ((up_to_256-true _ b.0).1, (up_to_256-true _ b.1).1)
 
   pub few_records : G.pages * G.banks ≤ 65536
   few_records = let m = mul-le-mul_right {m = G.pages} {n = 256} G.banks few.0 in omega (arith, m, few.1)
 
+-- a page of a bank that is there
+pub record There (G : Geometry) (bank page : ℕ) : Type 0 where
+  pub geometry : in_range G ≡ true
+  pub banked : bank < G.banks
+  pub paged : page < G.pages
+
+pub place : {G : Geometry} {bank page : ℕ} → in_range G ≡ true → reached G bank page ≡ true → There G bank page
+unfolding reached
+place e r = let b = both _ _ r in record { geometry = e; banked = ltb-true _ _ b.0; paged = ltb-true _ _ b.1 }
+
+-- its bank and its page are bytes, and its slot lies within the image and says which they are
+module _ {G : Geometry} {bank page : ℕ} (there : There G bank page) where
+  pub bank_byte : bank < 256
+  bank_byte = omega (arith, there.banked, (few G there.geometry).1)
+
+  pub page_byte : page < 256
+  page_byte = omega (arith, there.paged, (few G there.geometry).0)
+
+  pub slot-within : slot G bank page < G.pages * G.banks
+  unfolding slot
+  slot-within = mul-add-lt bank G.pages page G.banks there.banked there.paged
+
+  pub slot-room : 272 * slot G bank page + 272 ≤ image_length G
+  unfolding image_length
+  slot-room = omega (arith, slot-within)
+
+  pub slot-bank : slot G bank page / G.pages ≡ bank
+  unfolding slot
+  slot-bank = div-mul-add bank G.pages page there.paged
+
+  pub slot-page : slot G bank page % G.pages ≡ page
+  unfolding slot
+  slot-page = mod-mul-add bank G.pages page there.paged
+
 -- what holds of a call that is taken up to its look
 pub record Taken (t : Twofish) (G : Geometry) (long : ℕ) (placed fits : Bool) : Type 0 where
   pub start : t.start ≤ 2
   pub geometry : in_range G ≡ true
   pub whole : long ≡ image_length G
+  pub small : long ≤ 17825792
   pub at_place : placed ≡ true
   pub fitting : fits ≡ true
 
 pub taken : (t : Twofish) (G : Geometry) (long : ℕ) (placed fits : Bool) → given (refusals t G long placed fits) ≡ 0 → Taken t G long placed fits
-unfolding refusals
+unfolding refusals image_length
 taken t G long placed fits e =
     let a = given_none 1 _ _ e in
     let b = given_none 3 _ _ a.1 in
     let c = given_none 4 _ _ b.1 in
     let d = given_none 5 _ _ c.1 in
     let f = given_none 6 _ _ d.1 in
+    let ranged = not-false _ b.0 in
+    let whole = eqb-true _ _ (not-false _ c.0) in
     record {
       start = ltb-false _ _ a.0;
-      geometry = not-false _ b.0;
-      whole = eqb-true _ _ (not-false _ c.0);
+      geometry = ranged;
+      whole = whole;
+      small = omega (arith, whole, few_records G ranged);
       at_place = not-false _ d.0;
       fitting = not-false _ f.0;
     }
 
--- a place that is there
-pub place : (G : Geometry) (bank page : ℕ) → reached G bank page ≡ true → (bank < G.banks) × (page < G.pages)
-unfolding reached
-place G bank page e = let b = both _ _ e in (ltb-true _ _ b.0, ltb-true _ _ b.1)
-
 -- what holds of a call of seal that no refusal is given to
 pub record Takes (t : Twofish) (G : Geometry) (long bank page n : ℕ) : Type 0 where
   pub start : t.start ≤ 2
-  pub geometry : in_range G ≡ true
-  pub whole : long ≡ image_length G
-  pub banked : bank < G.banks
-  pub paged : page < G.pages
+  pub there : There G bank page
   pub reaches : reached G bank page ≡ true
-  pub some : 0 < n
+  pub room : 272 * slot G bank page + 272 ≤ long
+  pub small : long ≤ 17825792
   pub fits : n ≤ 256
 
-pub takes : (t : Twofish) (G : Geometry) (long bank page n : ℕ) → seal_number t G long bank page n ≡ 0 → Takes t G long bank page n
+pub takes : {t : Twofish} {G : Geometry} {long bank page n : ℕ} → seal_number t G long bank page n ≡ 0 → Takes t G long bank page n
 unfolding seal_number
-takes t G long bank page n e =
+takes {t} {G} {long} {bank} {page} {n} e =
     let k = taken t G long _ _ e in
-    let p = place G bank page k.at_place in
-    let bytes = up_to_256-true n k.fitting in
+    let there = place k.geometry k.at_place in
     record {
       start = k.start;
-      geometry = k.geometry;
-      whole = k.whole;
-      banked = p.0;
-      paged = p.1;
+      there = there;
       reaches = k.at_place;
-      some = bytes.0;
-      fits = bytes.1;
+      room = omega (arith, slot-room there, k.whole);
+      small = k.small;
+      fits = (up_to_256-true n k.fitting).1;
     }
 
--- seal's refusals, by what its two tests say
-module _ (t : Twofish) (G : Geometry) (long bank page n : ℕ) {placed fits : Bool} (p : placed ≡ reached G bank page) (f : fits ≡ up_to_256 n) where
-  pub seals : given (refusals t G long placed fits) ≡ seal_number t G long bank page n
-  unfolding seal_number
-  seals = ap₂ (λ (x y : Bool). given (refusals t G long x y)) p f
+-- the number of seal's refusal, by what its two tests say
+pub seals :
+    (t : Twofish) (G : Geometry) (long bank page n : ℕ) {m : ℕ} {placed fits : Bool} → placed ≡ reached G bank page → fits ≡ up_to_256 n
+    → m ≡ given (refusals t G long placed fits) → m ≡ seal_number t G long bank page n
+unfolding seal_number
+seals t G long bank page n p f e = e ∙ ap₂ (λ (x y : Bool). given (refusals t G long x y)) p f
 
-  pub seal_takes : 0 ≡ given (refusals t G long placed fits) → Takes t G long bank page n
-  seal_takes e = takes t G long bank page n (sym (e ∙ seals))
-
--- a slot lies within the image
-pub slot-room : (G : Geometry) (bank page : ℕ) → bank < G.banks → page < G.pages → 272 * slot G bank page + 272 ≤ image_length G
-unfolding slot image_length
-slot-room G bank page hb hp =
-    let m = mul-le-mul_right {m = suc bank} {n = G.banks} G.pages hb in
-    omega (arith, m, suc-mul bank G.pages, mul_comm G.pages G.banks, hp)
+pub seal_takes :
+    {t : Twofish} {G : Geometry} {long bank page n : ℕ} {placed fits : Bool} → placed ≡ reached G bank page → fits ≡ up_to_256 n
+    → 0 ≡ given (refusals t G long placed fits) → Takes t G long bank page n
+seal_takes p f e = takes (sym (seals _ _ _ _ _ _ p f e))
 
 -- the record that a slice of the image is
 module _ (G : Geometry) (bank page at : ℕ) (image : List ℕ) (e : at ≡ 272 * slot G bank page) where
@@ -111,25 +146,3 @@ module _ (G : Geometry) (bank page at : ℕ) (image : List ℕ) (e : at ≡ 272 
   slice-length h =
       let wide : at + 272 - at ≡ 272 = omega arith in
       length-take-le (at + 272 - at) (drop at image) (omega (arith, h, e, length-drop at image)) ∙ wide
-
--- what the code's numbers need, where a call is taken
-pub record Fits_in (G : Geometry) (long bank page n : ℕ) : Type 0 where
-  pub bank_byte : bank < 256
-  pub page_byte : page < 256
-  pub room : 272 * slot G bank page + 272 ≤ long
-  pub small : long ≤ 17825792
-  pub some_fits : n ≤ 256
-
-pub fits_in : {t : Twofish} {G : Geometry} {long bank page n : ℕ} → Takes t G long bank page n → Fits_in G long bank page n
-unfolding image_length
-fits_in {t} {G} {long} {bank} {page} {n} k =
-    let f = few G k.geometry in
-    let m = few_records G k.geometry in
-    let r = slot-room G bank page k.banked k.paged in
-    record {
-      bank_byte = omega (arith, k.banked, f.1);
-      page_byte = omega (arith, k.paged, f.0);
-      room = omega (arith, r, k.whole);
-      small = omega (arith, m, k.whole);
-      some_fits = k.fits;
-    }

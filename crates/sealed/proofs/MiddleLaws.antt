@@ -1,7 +1,7 @@
 -- CBC deciphered in its middle: blocks from one on need only the block before them, and blocks up to one only those.
 use Rattle.std.proofs.Common.{◌≡◌, ℕ, zero, suc, ◌+◌, ◌-◌, ◌*◌, ◌≤◌, List, ◌++◌, length, take, drop, replicate, refl, sym, ap, ap₂, ◌∙◌, arith, length-drop}
 use Rattle.std.proofs.lemmas.List.{drop-drop, drop-take, take-take}
-use lib.Seq.{drop_at, length-take-le, take-append-add, take-append-le, drop-append-le}
+use lib.Seq.{drop_at, length-take-le, take-append-add}
 use Rattle.spans.specs.Bytes.{xor_bytes}
 use Rattle.sealed.specs.Cbc.{uncbc}
 use Rattle.sealed.specs.Record.{page_of}
@@ -78,8 +78,3 @@ module _ (D : List ℕ → List ℕ) (wide : (l : List ℕ) → length (D l) ≡
       ∙ short
       ∙ ap (λ (b : List ℕ). take n (drop q b)) (sym (from_block i 17 m z l (omega (arith, fits)) refl (omega (arith, long, fits))))
       ∙ ap (take n) (drop-drop q (16 * suc i) W ∙ ap (λ (j : ℕ). drop j W) joined ∙ sym (drop-drop (16 * i + q) 16 W))
-
--- what lies within the front of a list
-pub front_part : (n q : ℕ) (u w : List ℕ) → q + n ≤ length u → take n (drop q (u ++ w)) ≡ take n (drop q u)
-front_part n q u w h =
-    ap (take n) (drop-append-le q u w (omega (arith, h))) ∙ take-append-le n (drop q u) w (omega (arith, h, length-drop q u))

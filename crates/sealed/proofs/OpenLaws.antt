@@ -1,14 +1,14 @@
 -- Opening undoes sealing: CBC deciphered is what was enciphered, over any block function that is undone, and so is a record.
-use Rattle.std.proofs.Common.{◌≡◌, ℕ, zero, suc, ◌-◌, ◌*◌, ◌<◌, ◌≤◌, List, ◌∷◌, ◌++◌, length, take, drop, replicate, refl, sym, ap, ap₂, ◌∙◌, arith, lit<, mod-lt}
+use Rattle.std.proofs.Common.{◌≡◌, ℕ, zero, suc, ◌-◌, ◌*◌, ◌<◌, ◌≤◌, List, ◌∷◌, ◌++◌, length, take, drop, replicate, refl, sym, ap, ap₂, ◌∙◌, arith, lit<}
 use Rattle.std.proofs.lemmas.List.{take-append-drop, length-drop, append-nil}
 use lib.Seq.{take_at, drop_at}
-use Rattle.words.specs.Word.{byte_of, bytes_of}
 use Rattle.spans.specs.Bytes.{Bytes, xor_bytes}
 use Rattle.spans.proofs.BytesLaws.{AllBytes, AllBytes-append, AllBytes-drop, AllBytes-replicate, Bytes-take, Bytes-xor_bytes, Bytes-replicate, xor_twice, xor_zeros}
 use Rattle.twofish.specs.declared.Twofish.{Twofish}
-use Rattle.block.specs.Block.{block_of, enciphered, deciphered, Schedule}
+use Rattle.block.specs.Block.{enciphered, deciphered, Schedule}
+use Rattle.block.proofs.Bytes16.{enciphered-bytes, deciphered-bytes}
 use Rattle.block.proofs.Undone.{undone, redone}
-use Rattle.block.proofs.ThereAndBack.{enciphered-length, deciphered-length}
+use Rattle.block.proofs.ThereAndBack.{deciphered-length}
 use Rattle.sealed.specs.Cbc.{cbc, uncbc}
 use Rattle.sealed.specs.Record.{place_block, filled, sealed, page_of}
 use Rattle.sealed.proofs.RecordLaws.{laid-length}
@@ -54,31 +54,6 @@ module _ (E D : List ℕ → List ℕ) (wide : (l : List ℕ) → Bytes 16 (E l)
         ap₂ (λ (m k : List ℕ). cbc E m n k) first back
         ∙ cbc-uncbc n p (drop 16 l) hp (omega (arith, length-drop 16 l)) (AllBytes-drop 16 l hb) in
         ap₂ ◌++◌ first rest ∙ take-append-drop 16 l
-
--- the bytes of a word, and of a block, are bytes
-bytes_of-bytes : (x : ℕ) → AllBytes (bytes_of x)
-unfolding bytes_of byte_of
-bytes_of-bytes x zero = mod-lt _ (lit< tt)
-bytes_of-bytes x (suc zero) = mod-lt _ (lit< tt)
-bytes_of-bytes x (suc (suc zero)) = mod-lt _ (lit< tt)
-bytes_of-bytes x (suc (suc (suc zero))) = mod-lt _ (lit< tt)
-bytes_of-bytes x (suc (suc (suc (suc i)))) = lit< tt
-
-enciphered-bytes : (t : Twofish) (l : List ℕ) → Bytes 16 (enciphered t l)
-unfolding enciphered block_of
-enciphered-bytes t l =
-    record {
-      long = enciphered-length t l;
-      byte = AllBytes-append _ _ (bytes_of-bytes _) (AllBytes-append _ _ (bytes_of-bytes _) (AllBytes-append _ _ (bytes_of-bytes _) (bytes_of-bytes _)));
-    }
-
-pub deciphered-bytes : (t : Twofish) (l : List ℕ) → Bytes 16 (deciphered t l)
-unfolding deciphered block_of
-deciphered-bytes t l =
-    record {
-      long = deciphered-length t l;
-      byte = AllBytes-append _ _ (bytes_of-bytes _) (AllBytes-append _ _ (bytes_of-bytes _) (AllBytes-append _ _ (bytes_of-bytes _) (bytes_of-bytes _)));
-    }
 
 -- a record under a schedule opens to its place and its page
 pub opened-sealed :

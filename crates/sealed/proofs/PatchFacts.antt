@@ -12,6 +12,7 @@ use Rattle.spans.proofs.BytesLaws.{AllBytes, AllBytes-drop, AllBytes-take}
 use Rattle.spans.proofs.PartsLaws.{splice-length, take_within, take_before, drop-splice, splice_same}
 use Rattle.twofish.specs.declared.Twofish.{Twofish}
 use Rattle.block.specs.Block.{enciphered, deciphered, Schedule}
+use Rattle.block.proofs.Bytes16.{deciphered-bytes}
 use Rattle.block.proofs.Undone.{redone}
 use Rattle.block.proofs.ThereAndBack.{enciphered-length}
 use Rattle.sealed.specs.declared.Geometry.{Geometry}
@@ -19,7 +20,7 @@ use Rattle.sealed.specs.Cbc.{cbc, uncbc}
 use Rattle.sealed.specs.Record.{sealed, looked, page_of}
 use Rattle.sealed.specs.Image.{slot, record_at, sealed_in, patched_in, access_number}
 use Rattle.sealed.proofs.RecordLaws.{sealed-length}
-use Rattle.sealed.proofs.OpenLaws.{deciphered-bytes, page_of-length, sealing}
+use Rattle.sealed.proofs.OpenLaws.{page_of-length, sealing}
 use Rattle.sealed.proofs.PatchLaws.{overlaid, patched}
 use Rattle.sealed.proofs.AccessLaws.{Opens, accessed}
 

@@ -7,7 +7,7 @@ use lib.Pointwise.{bytes_decides}
 use Rattle.spans.specs.Bytes.{Bytes, xor_bytes}
 use Rattle.spans.specs.Parts.{splice}
 use Rattle.spans.proofs.BytesLaws.{AllBytes, AllBytes-drop, Bytes-take, xor_twice}
-use Rattle.spans.proofs.PartsLaws.{splice-length}
+use Rattle.spans.proofs.PartsLaws.{splice-length, splice_after}
 use Rattle.twofish.specs.declared.Twofish.{Twofish}
 use Rattle.block.specs.Block.{enciphered, deciphered}
 use Rattle.sealed.specs.Cbc.{cbc, uncbc}
@@ -15,14 +15,6 @@ use Rattle.sealed.specs.Record.{sealed, looked, page_of}
 use Rattle.sealed.proofs.OpenLaws.{filled-page, first_opened, page_of-length}
 use Rattle.sealed.proofs.Blocks.{xored-length}
 use Rattle.sealed.proofs.MiddleLaws.{from_block}
-
--- what is laid over a list after its first k elements is laid over the rest
-pub splice_after : (k q : ℕ) (vs l : List ℕ) → splice (k + q) vs l ≡ take k l ++ splice q vs (drop k l)
-unfolding splice
-splice_after k q vs l =
-    let on : k + q + length vs ≡ k + (q + length vs) = omega arith in
-    ap₂ (λ (f r : List ℕ). f ++ (vs ++ r)) (take-add k q l) (ap (λ (n : ℕ). drop n l) on ∙ sym (drop-drop (q + length vs) k l))
-    ∙ append_assoc (take k l) (take q (drop k l)) (vs ++ drop (q + length vs) (drop k l))
 
 module _ (E D : List ℕ → List ℕ) (wide : (l : List ℕ) → Bytes 16 (D l)) (redo : (l : List ℕ) → Bytes 16 l → E (D l) ≡ l) where
   -- the first blocks as they open, and other blocks after them: the first are enciphered to what they were

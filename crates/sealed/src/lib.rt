@@ -241,7 +241,8 @@ pub fn seal(
     Ok(BLOCKS)
 }
 
-// Whether 272 bytes are the record of a bank's page: their first block deciphers to the place block. No bytes are under a schedule that is refused, nor of any other length.
+// Whether 272 bytes are the record of a bank's page: their first block deciphers to the place block. No bytes are under a schedule that is
+// refused, nor of any other length.
 pub fn look(t: Twofish, bank: u32, page: u32, bytes: &[u8]) -> bool
     ensures { result ≡ look_answer t bank page bytes.now }
 {
@@ -293,7 +294,8 @@ pub fn read(
     Ok(0)
 }
 
-// Bytes of a bank's page replaced from an offset on, 1 to 256 and all inside one page. No byte before the first block that holds one of them is written, and a refusal leaves every byte.
+// Bytes of a bank's page replaced from an offset on, 1 to 256 and all inside one page. No byte before the first block that holds one of them is
+// written, and a refusal leaves every byte.
 pub fn patch(
     t: Twofish,
     geometry: Geometry,

@@ -1,14 +1,13 @@
 -- Laws of parts of a list and of a list with a part replaced.
-use mathlib.Core.Path.{◌≡◌, refl, sym, ap, ◌∙◌}
+use mathlib.Core.Path.{◌≡◌, refl, sym, ap, ap₂, ◌∙◌}
 use mathlib.Core.List.{List, ◌++◌, append_assoc, append-nil}
-use Prim.Native.Nat.{ℕ, suc, ◌+◌, ◌*◌, ◌≤◌}
+use Prim.Native.Nat.{ℕ, ◌+◌, ◌≤◌}
 use native.Mathlib.Nat.{zero-add}
 use native.Mathlib.Omega.{arith}
 use borrow.Rule.Slice.PartMut.{put_mid}
-use Rattle.std.proofs.lemmas.List.{drop-take}
 use lib.ListN.{length, take, drop, replicate, length-append, length-drop, take-append-drop}
-use lib.Seq.{length-take-le, take_at, drop_at, take_all, drop-drop, drop-length, take-append-add, take-append-le, take-take}
-use Rattle.spans.specs.Parts.{part, splice}
+use lib.Seq.{length-take-le, take_at, drop_at, take_all, take-add, drop-drop, drop-length, drop-append-le, take-append-add, take-append-le, take-take}
+use Rattle.spans.specs.Parts.{splice}
 
 module _ (o : ℕ) (vs l : List ℕ) (fits : o + length vs ≤ length l) where
   head_length : length (take o l) ≡ o
@@ -81,9 +80,15 @@ pub mid_splice : (o n : ℕ) (vs l : List ℕ) → length vs ≡ n → put_mid o
 unfolding splice
 mid_splice o n vs l e = rw (drop-drop n o l, e)
 
--- a part is within the parts up to it
-pub part-take : (w j : ℕ) (l : List ℕ) → part w j (take (suc j * w) l) ≡ part w j l
-unfolding part
-part-take w j l =
-    let e : suc j * w ≡ j * w + w = omega arith in
-    ap (λ (n : ℕ). take w (drop (j * w) (take n l))) e ∙ ap (take w) (drop-take (j * w) w l) ∙ take-take w w (drop (j * w) l) (omega arith)
+-- what is laid over a list after its first k elements is laid over the rest
+pub splice_after : (k q : ℕ) (vs l : List ℕ) → splice (k + q) vs l ≡ take k l ++ splice q vs (drop k l)
+unfolding splice
+splice_after k q vs l =
+    let on : k + q + length vs ≡ k + (q + length vs) = omega arith in
+    ap₂ (λ (f r : List ℕ). f ++ (vs ++ r)) (take-add k q l) (ap (λ (n : ℕ). drop n l) on ∙ sym (drop-drop (q + length vs) k l))
+    ∙ append_assoc (take k l) (take q (drop k l)) (vs ++ drop (q + length vs) (drop k l))
+
+-- what lies within the front of a list
+pub front_part : (n q : ℕ) (u w : List ℕ) → q + n ≤ length u → take n (drop q (u ++ w)) ≡ take n (drop q u)
+front_part n q u w h =
+    ap (take n) (drop-append-le q u w (omega (arith, h))) ∙ take-append-le n (drop q u) w (omega (arith, h, length-drop q u))

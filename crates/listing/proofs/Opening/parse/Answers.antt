@@ -2,8 +2,9 @@
 use Rattle.std.proofs.Common.{◌≡◌, ap, ◌∙◌, take, drop}
 use borrow.Author.Tests.{lt-ltb, le-ltb}
 use Rattle.twofish.specs.Schedule.{SetUp, refused, set_up}
+use Rattle.sealed.proofs.ImageLaws.{in_range-bytes}
 use Rattle.listing.specs.Slot.{opening}
-use Rattle.listing.proofs.ListingLaws.{schedule-handed, in_range-bytes}
+use Rattle.listing.proofs.ListingLaws.{schedule-handed}
 use Rattle.listing.proofs.Opening.parse.Goals as goal
 
 pub returns-then-bytes-lt-OPENING-clause-says : goal.returns-then-bytes-lt-OPENING-clause-says

@@ -2,13 +2,13 @@
 use Rattle.std.proofs.Common.{◌≡◌, ℕ, ◌+◌, ◌-◌, ◌*◌, ◌/◌, ◌%◌, ◌≤◌, List, ◌++◌, length, take, drop, replicate, ap, ap₂, ◌∙◌, arith, length-drop}
 use lib.Seq.{length-take-le, take_at}
 use Rattle.spans.specs.Parts.{splice}
-use Rattle.spans.proofs.PartsLaws.{block_whole}
+use Rattle.spans.proofs.PartsLaws.{block_whole, front_part}
 use Rattle.block.specs.Block.{deciphered}
 use Rattle.block.proofs.ThereAndBack.{deciphered-length}
 use Rattle.sealed.specs.Cbc.{uncbc}
 use Rattle.sealed.specs.Record.{page_of}
 use Rattle.sealed.proofs.OpenLaws.{uncbc-length}
-use Rattle.sealed.proofs.MiddleLaws.{front_part, page_bytes}
+use Rattle.sealed.proofs.MiddleLaws.{page_bytes}
 use Rattle.sealed.proofs.Accepted.open.Goals as goal
 
 pub returns : goal.returns

@@ -5,9 +5,9 @@ use Rattle.spans.specs.Parts.{splice}
 use Rattle.spans.proofs.BytesLaws.{AllBytes}
 use Rattle.spans.proofs.PartsLaws.{block_whole, mid_splice, splice_end}
 use Rattle.block.specs.Block.{enciphered, deciphered}
+use Rattle.block.proofs.Bytes16.{deciphered-bytes}
 use Rattle.block.proofs.Undone.{redone}
 use Rattle.sealed.specs.Cbc.{cbc, uncbc}
-use Rattle.sealed.proofs.OpenLaws.{deciphered-bytes}
 use Rattle.sealed.proofs.PatchLaws.{overlaid}
 use Rattle.sealed.proofs.Accepted.patch_record.Goals as goal
 

@@ -7,9 +7,7 @@ use Rattle.sealed.proofs.Geometry.record_start.Goals as goal
 pub overflow_mul-result-2 : goal.overflow_mul-result-2
 unfolding slot image_length
 overflow_mul-result-2 c =
-    let a = c.args in
-    let p = place a.self a.bank a.page c.requires.1 in
-    omega (arith, few_records a.self c.requires.0, slot-room a.self a.bank a.page p.0 p.1)
+    omega (arith, few_records c.args.self c.requires.0, slot-room (place c.requires.0 c.requires.1))
 
 pub returns : goal.returns
 unfolding slot
