@@ -6,9 +6,12 @@
 #include <stdlib.h>
 #include <string.h>
 
-enum { PAGE = 256, RECORD = 272, GUARD = 32, MOST = 13 * RECORD };
+enum { PAGE = 256, RECORD = 272, GUARD = 32, MOST = 13 * RECORD, ITEMS = 64, NUMBERS = 11 };
 
-typedef enum { ENCIPHER, DECIPHER, SEAL, READ, PATCH } entry;
+// From so many calls on, a number that none of them met is a failure too.
+enum { MANY = 2000 };
+
+typedef enum { ENCIPHER, DECIPHER, SEAL, READ, PATCH, LIST, ENTRIES } entry;
 
 // A lent buffer between guard bytes.
 typedef struct {
@@ -16,9 +19,11 @@ typedef struct {
     uint8_t all[GUARD + MOST + GUARD];
 } lent;
 
-// A call with all that it lends. `at` is the page number of a seal, the offset of a read or a patch.
+// A call with all that it lends. `at` is the page number of a seal, the offset of a read or a patch. A list has items in place of bank and `at`.
 typedef struct {
     uint32_t entry, pages, banks, bank, at;
+    size_t items;
+    hf_item item[ITEMS + 1];
     lent key, image, bytes;
 } call;
 
@@ -82,12 +87,62 @@ static bool open_record(const other *o, uint32_t bank, uint32_t page, const uint
     return memcmp(block, place, 16) == 0;
 }
 
-static hf_answer refused(uint32_t number) {
-    return (hf_answer){number, 0};
+static hf_list_answer refused(uint32_t number) {
+    return (hf_list_answer){number, 0, 0};
+}
+
+static hf_list_answer done(uint32_t count) {
+    return (hf_list_answer){0, count, 0};
+}
+
+static uint8_t *record_of(call *c, uint32_t bank, uint32_t page) {
+    return start(&c->image) + RECORD * (bank * c->pages + page);
+}
+
+// The first of refusals 6, 7 and 8 that holds of so many bytes, else 0 and the page that the record holds.
+static uint32_t judge(const other *o, call *c, uint32_t bank, uint32_t offset, size_t length, uint8_t *plain) {
+    uint32_t page = offset / PAGE;
+    if (bank >= c->banks || page >= c->pages) {
+        return 6;
+    }
+    if (length < 1 || length > PAGE || offset % PAGE + length > PAGE) {
+        return 7;
+    }
+    return open_record(o, bank, page, record_of(c, bank, page), plain) ? 0 : 8;
+}
+
+// A patch that is taken, of a page that was opened, and its count.
+static uint32_t patch(const other *o, call *c, uint32_t bank, uint32_t offset, const uint8_t *bytes, size_t length, uint8_t *plain) {
+    memcpy(plain + offset % PAGE, bytes, length);
+    seal_record(o, bank, offset / PAGE, plain, record_of(c, bank, offset / PAGE));
+    return 16 - offset % PAGE / 16;
+}
+
+// The patches of a list one by one; every one is judged on the image as it came, before the first is made.
+static hf_list_answer expected_list(const other *o, call *c) {
+    uint8_t plain[PAGE];
+    uint32_t count = 0;
+    if (c->items > ITEMS) {
+        return refused(10);
+    }
+    for (uint32_t i = 0; i < c->items; i++) {
+        hf_item t = c->item[i];
+        bool outside = (uint64_t)t.start + t.length > c->bytes.length;
+        uint32_t number = outside ? 9 : judge(o, c, t.bank, t.offset, t.length, plain);
+        if (number != 0) {
+            return (hf_list_answer){number, 0, i};
+        }
+    }
+    for (uint32_t i = 0; i < c->items; i++) {
+        hf_item t = c->item[i];
+        judge(o, c, t.bank, t.offset, t.length, plain);
+        count += patch(o, c, t.bank, t.offset, start(&c->bytes) + t.start, t.length, plain);
+    }
+    return done(count);
 }
 
 // The call by the other library.
-static hf_answer expected(const other *o, call *c) {
+static hf_list_answer expected(const other *o, call *c) {
     size_t n = c->bytes.length;
     uint8_t *bytes = start(&c->bytes), plain[PAGE];
     if (!o->set(start(&c->key), c->key.length)) {
@@ -98,51 +153,54 @@ static hf_answer expected(const other *o, call *c) {
             return refused(3);
         }
         (c->entry == ENCIPHER ? o->encipher : o->decipher)(bytes);
-        return refused(0);
+        return done(0);
     }
-    uint32_t page = c->entry == SEAL ? c->at : c->at / PAGE, first = c->entry == SEAL ? 0 : c->at % PAGE;
     if (c->pages < 1 || c->pages > 256 || c->banks < 1 || c->banks > 256) {
         return refused(4);
     }
     if (c->image.length != (size_t)RECORD * c->pages * c->banks) {
         return refused(5);
     }
-    if (c->bank >= c->banks || page >= c->pages) {
-        return refused(6);
+    if (c->entry == LIST) {
+        return expected_list(o, c);
     }
-    if (n < 1 || n > PAGE || first + n > PAGE) {
-        return refused(7);
-    }
-    uint8_t *record = start(&c->image) + RECORD * (c->bank * c->pages + page);
     if (c->entry == SEAL) {
+        if (c->bank >= c->banks || c->at >= c->pages) {
+            return refused(6);
+        }
+        if (n < 1 || n > PAGE) {
+            return refused(7);
+        }
         memset(plain, 0, PAGE);
         memcpy(plain, bytes, n);
-        seal_record(o, c->bank, page, plain, record);
-        return (hf_answer){0, 17};
+        seal_record(o, c->bank, c->at, plain, record_of(c, c->bank, c->at));
+        return done(17);
     }
-    if (!open_record(o, c->bank, page, record, plain)) {
-        return refused(8);
+    uint32_t number = judge(o, c, c->bank, c->at, n, plain);
+    if (number != 0) {
+        return refused(number);
     }
     if (c->entry == READ) {
-        memcpy(bytes, plain + first, n);
-        return refused(0);
+        memcpy(bytes, plain + c->at % PAGE, n);
+        return done(0);
     }
-    memcpy(plain + first, bytes, n);
-    seal_record(o, c->bank, page, plain, record);
-    return (hf_answer){0, 16 - first / 16};
+    return done(patch(o, c, c->bank, c->at, bytes, n, plain));
 }
 
 // The call by the library.
-static hf_answer given(call *c) {
+static hf_list_answer given(call *c) {
     uint8_t *key = start(&c->key), *image = start(&c->image), *bytes = start(&c->bytes);
     size_t k = c->key.length, m = c->image.length, n = c->bytes.length;
+    hf_answer answer;
     switch (c->entry) {
-    case ENCIPHER: return hf_encipher(key, k, bytes, n);
-    case DECIPHER: return hf_decipher(key, k, bytes, n);
-    case SEAL: return hf_seal(key, k, c->pages, c->banks, image, m, c->bank, c->at, bytes, n);
-    case READ: return hf_read(key, k, c->pages, c->banks, image, m, c->bank, c->at, bytes, n);
-    default: return hf_patch(key, k, c->pages, c->banks, image, m, c->bank, c->at, bytes, n);
+    case ENCIPHER: answer = hf_encipher(key, k, bytes, n); break;
+    case DECIPHER: answer = hf_decipher(key, k, bytes, n); break;
+    case SEAL: answer = hf_seal(key, k, c->pages, c->banks, image, m, c->bank, c->at, bytes, n); break;
+    case READ: answer = hf_read(key, k, c->pages, c->banks, image, m, c->bank, c->at, bytes, n); break;
+    case PATCH: answer = hf_patch(key, k, c->pages, c->banks, image, m, c->bank, c->at, bytes, n); break;
+    default: return hf_patch_list(key, k, c->pages, c->banks, image, m, c->item, c->items, bytes, n);
     }
+    return (hf_list_answer){answer.number, answer.count, 0};
 }
 
 // A key length that the library takes.
@@ -156,10 +214,50 @@ static size_t taken(const other *o) {
     }
 }
 
+// A right record of random bytes, whose place is to be in the image.
+static void make_record(const other *o, call *c, uint32_t bank, uint32_t page) {
+    uint8_t plain[PAGE];
+    fill(plain, PAGE);
+    o->set(start(&c->key), c->key.length);
+    seal_record(o, bank, page, plain, record_of(c, bank, page));
+}
+
+// A list of up to 65 items, few of them as a rule, on pages anywhere or all on one, and now and then with one of them wrong.
+static void make_items(const other *o, call *c) {
+    bool one = below(3) == 0;
+    c->items = below(16) == 0 ? ITEMS - 1 + below(3) : below(6);
+    lend(&c->bytes, PAGE + below(300));
+    for (size_t i = 0; i < c->items; i++) {
+        hf_item *t = &c->item[i];
+        uint32_t page = one ? c->at / PAGE : below(c->pages), first = below(PAGE);
+        t->bank = one ? c->bank : below(c->banks);
+        t->offset = PAGE * page + first;
+        t->length = 1 + below(PAGE - first);
+        t->start = below((uint32_t)c->bytes.length - t->length + 1);
+        if (below(8) != 0) {
+            make_record(o, c, t->bank, page);
+        }
+    }
+    if (c->items == 0 || below(3) != 0) {
+        return;
+    }
+    hf_item *t = &c->item[below((uint32_t)c->items)];
+    for (uint32_t spoiled = 1 + below(2); spoiled > 0; spoiled--) {
+        switch (below(6)) {
+        case 0: t->bank = below(2) ? c->banks : UINT32_MAX; break;
+        case 1: t->offset = below(2) ? PAGE * c->pages : UINT32_MAX; break;
+        case 2: t->length = 0; break;
+        case 3: t->start = 0, t->length = PAGE + below(2); break;
+        case 4: t->start = (uint32_t)c->bytes.length - below(2); break;
+        default: t->start = UINT32_MAX, t->length = 1 + below(3);
+        }
+    }
+}
+
 // A random call: right, but for up to two parts. A length of 24 is left out where the other library does not take it.
 static void make(const other *o, call *c) {
     memset(c, 0, sizeof *c);
-    c->entry = below(5);
+    c->entry = below(ENTRIES);
     c->pages = 1 + below(4);
     c->banks = 1 + below(3);
     c->bank = below(c->banks);
@@ -169,14 +267,13 @@ static void make(const other *o, call *c) {
     lend(&c->image, RECORD * c->pages * c->banks);
     lend(&c->bytes, c->entry < SEAL ? 16 : 1 + below(c->entry == SEAL ? PAGE : PAGE - first));
     if (below(8) != 0) {
-        uint8_t plain[PAGE];
-        fill(plain, PAGE);
-        o->set(start(&c->key), c->key.length);
-        uint8_t *record = start(&c->image) + RECORD * (c->bank * c->pages + page);
-        seal_record(o, c->bank, page, plain, record);
+        make_record(o, c, c->bank, page);
         if (below(8) == 0) {
-            record[below(RECORD)] ^= 1 << below(8);
+            record_of(c, c->bank, page)[below(RECORD)] ^= 1 << below(8);
         }
+    }
+    if (c->entry == LIST) {
+        make_items(o, c);
     }
     for (uint32_t spoiled = below(3); spoiled > 0; spoiled--) {
         switch (below(7)) {
@@ -196,32 +293,50 @@ static void make(const other *o, call *c) {
     }
 }
 
+// The numbers that are answered: by lists, and by the other entries.
+static const bool gives[2][NUMBERS] = {
+    {true, true, false, true, true, true, true, true, true, false, false},
+    {true, true, false, false, true, true, true, true, true, true, true},
+};
+
+// Prints how often each was met. Whether each was.
+static bool tell(const long *numbers, const bool *given) {
+    bool met = numbers[0] != 0;
+    printf(" done %ld, refused", numbers[0]);
+    for (int i = 1; i < NUMBERS; i++) {
+        if (given[i]) {
+            printf("%s by %d %ld", i > 1 ? "," : "", i, numbers[i]);
+            met = met && numbers[i] != 0;
+        }
+    }
+    return met;
+}
+
 // Holds the library beside one other. Whether they agree.
 static bool agree(const other *o, uint64_t seed, long cases) {
     static call before, wanted, got;
-    long numbers[9] = {0};
+    long numbers[2][NUMBERS] = {0};
     for (long i = 0; i < cases; i++) {
         state = (seed + (uint64_t)i) * 0x9e3779b97f4a7c15u | 1;
         make(o, &before);
         wanted = got = before;
-        hf_answer a = expected(o, &wanted), b = given(&got);
-        if (a.number != b.number || a.count != b.count || memcmp(&wanted, &got, sizeof got) != 0) {
-            printf("%s: not the same, entry %u with pages %u, banks %u, bank %u, page or offset %u, lengths %zu, %zu, %zu: "
-                   "number %u, count %u, and here number %u, count %u%s\nAgain: second 1 %llu\n",
-                   o->name, before.entry, before.pages, before.banks, before.bank, before.at, before.key.length, before.image.length,
-                   before.bytes.length, a.number, a.count, b.number, b.count,
+        hf_list_answer a = expected(o, &wanted), b = given(&got);
+        if (a.number != b.number || a.count != b.count || a.place != b.place || memcmp(&wanted, &got, sizeof got) != 0) {
+            printf("%s: not the same, entry %u with pages %u, banks %u, bank %u, page or offset %u, items %zu, lengths %zu, %zu, %zu: "
+                   "number %u, count %u, place %u, and here number %u, count %u, place %u%s\nAgain: second 1 %llu\n",
+                   o->name, before.entry, before.pages, before.banks, before.bank, before.at, before.items, before.key.length,
+                   before.image.length, before.bytes.length, a.number, a.count, a.place, b.number, b.count, b.place,
                    memcmp(&wanted, &got, sizeof got) ? ", and bytes differ" : "", (unsigned long long)(seed + (uint64_t)i));
             return false;
         }
-        numbers[a.number]++;
+        numbers[before.entry == LIST][a.number]++;
     }
-    printf("%s: the same, %ld calls; done %ld, refused", o->name, cases, numbers[0]);
-    for (int i = 1; i < 9; i++) {
-        if (i != 2) {
-            printf(" by %d %ld%s", i, numbers[i], i < 8 ? "," : "\n");
-        }
-    }
-    return true;
+    printf("%s: the same, %ld calls;", o->name, cases);
+    bool met = tell(numbers[0], gives[0]);
+    printf("; lists:");
+    met = tell(numbers[1], gives[1]) && met;
+    puts(met || cases < MANY ? "" : "\nA number was never met: NOT ENOUGH");
+    return met || cases < MANY;
 }
 
 int main(int argc, char **argv) {

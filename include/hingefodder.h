@@ -10,7 +10,7 @@
    - A buffer comes as a pointer and then its length. A buffer of length 0 may come with a null pointer.
    - The buffers lent to one call must not overlap.
    - Any number is taken and judged. A call that is refused answers the number of its refusal and count 0, and changes no byte of any buffer.
-     Where several refusals hold, the lowest number is given.
+     Where several refusals hold, the one that the call's text below names first is given.
    - Erasing a key after use is the host's own task: its own copy, and what the call left on the stack below the host's frame.
 
    The text for each number is in hingefodder_text.h. */
@@ -32,6 +32,7 @@ extern "C" {
 #define HF_RECORD 272    /* bytes of a record: the place block and a page, 17 blocks */
 #define HF_PAGES_MAX 256 /* pages of a bank, at most */
 #define HF_BANKS_MAX 256 /* banks of an image, at most */
+#define HF_ITEMS_MAX 64  /* patches of a list, at most */
 
 /* The bytes of an image, for a geometry that is not refused. */
 #define HF_IMAGE(pages, banks) ((size_t)HF_RECORD * (size_t)(pages) * (size_t)(banks))
@@ -46,7 +47,9 @@ enum hf_number {
     HF_IMAGE_LENGTH = 5, /* the image is not 272 * pages * banks bytes */
     HF_PLACE = 6,        /* bank, page or offset lies outside the geometry */
     HF_LENGTH = 7,       /* the length is 0 or above 256, or the bytes run past the page's end */
-    HF_OTHER_RECORD = 8  /* the record does not open to its own place: another key, another place, or changed bytes */
+    HF_OTHER_RECORD = 8, /* the record does not open to its own place: another key, another place, or changed bytes */
+    HF_OUTSIDE = 9,      /* start and length of a list's item leave the bytes that are lent with it */
+    HF_TOO_MANY = 10     /* the list has more than 64 items */
 };
 
 /* `number` is one of enum hf_number; `count` is how many blocks were enciphered and written. */
@@ -54,6 +57,22 @@ typedef struct hf_answer {
     uint32_t number;
     uint32_t count;
 } hf_answer;
+
+/* A patch of a list: `length` bytes for bank `bank` from `offset` on, which are those from `start` on of the bytes that are lent with the list. */
+typedef struct hf_item {
+    uint32_t bank;
+    uint32_t offset;
+    uint32_t start;
+    uint32_t length;
+} hf_item;
+
+/* `number` and `count` as in hf_answer; `place` is that of the first item that is refused, counted from 0. It is 0 where the list as a whole is
+   refused, or is done. */
+typedef struct hf_list_answer {
+    uint32_t number;
+    uint32_t count;
+    uint32_t place;
+} hf_list_answer;
 
 /* Enciphers the block where it lies. Refused by 1 and 3. Count 0. */
 hf_answer hf_encipher(const uint8_t *key, size_t key_length, uint8_t *block, size_t block_length);
@@ -75,6 +94,12 @@ hf_answer hf_read(const uint8_t *key, size_t key_length, uint32_t pages, uint32_
    Refused by 1, 4, 5, 6 (bank, offset), 7 and 8. Count 16 - p / 16, where p is the first byte's place in its page. */
 hf_answer hf_patch(const uint8_t *key, size_t key_length, uint32_t pages, uint32_t banks, uint8_t *image, size_t image_length,
                    uint32_t bank, uint32_t offset, const uint8_t *bytes, size_t bytes_length);
+
+/* Makes the patches of a list one by one, in its order, or none of them. `items_length` counts items, 0 to 64; they may share bytes, and name one
+   place more than once. The list as a whole is refused by 1, 4, 5 and 10. Then each item is judged on the image as it came, and the first that
+   is refused is named: by 9, 6 (bank, offset), 7 and 8. Count is the sum of what hf_patch counts for each, 0 for an empty list. */
+hf_list_answer hf_patch_list(const uint8_t *key, size_t key_length, uint32_t pages, uint32_t banks, uint8_t *image, size_t image_length,
+                             const hf_item *items, size_t items_length, const uint8_t *bytes, size_t bytes_length);
 
 #ifdef __cplusplus
 }

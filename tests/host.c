@@ -25,6 +25,13 @@ static void answers(hf_answer answer, uint32_t number, uint32_t count, int line)
 #define DONE(call, count) answers((call), HF_DONE, (count), __LINE__)
 #define REFUSED(call, number) answers((call), (number), 0, __LINE__)
 
+static void answers_list(hf_list_answer answer, uint32_t number, uint32_t count, uint32_t place, int line)
+{
+    want(answer.number == number && answer.count == count && answer.place == place, line);
+}
+#define LIST_DONE(call, count) answers_list((call), HF_DONE, (count), 0, __LINE__)
+#define LIST_REFUSED(call, number, place) answers_list((call), (number), 0, (place), __LINE__)
+
 static int all(const uint8_t *bytes, size_t length, uint8_t byte)
 {
     for (size_t i = 0; i < length; i++)
@@ -81,6 +88,114 @@ static void meet_refusals(void)
     WANT(memcmp(before, room, sizeof room) == 0 && all(out, sizeof out, 0x55));
 }
 
+/* The list of the first `items` items, with `length` of the bytes that stand in plain. */
+static hf_list_answer list(const hf_item *item, size_t items, size_t length)
+{
+    return hf_patch_list(key, 16, PAGES, BANKS, room, SIZE, item, items, plain, length);
+}
+
+/* Every page of zeros. */
+static void seal_all(void)
+{
+    static const uint8_t none[HF_PAGE];
+    for (uint32_t slot = 0; slot < PAGES * BANKS; slot++)
+        DONE(hf_seal(key, 16, PAGES, BANKS, room, SIZE, slot / PAGES, slot % PAGES, none, HF_PAGE), 17);
+}
+
+static int reads(uint32_t bank, uint32_t offset, const uint8_t *wanted, size_t length)
+{
+    return hf_read(key, 16, PAGES, BANKS, room, SIZE, bank, offset, out, length).number == HF_DONE && memcmp(out, wanted, length) == 0;
+}
+
+/* Lists that are done. Their outcome is that of hf_patch, one after another. */
+static void make_lists(void)
+{
+    /* The second and the last write over the first; the third takes the same bytes to another bank. */
+    static const hf_item item[] = {{1, 0x1f0, 0, 16}, {1, 0x1f8, 100, 4}, {4, 0x237, 0, 1}, {1, 0x1fa, 7, 1}};
+    enum { ITEMS = sizeof item / sizeof item[0] };
+    uint32_t count = 0;
+    seal_all();
+    memcpy(before, room, SIZE);
+    for (size_t i = 0; i < ITEMS; i++)
+        count += hf_patch(key, 16, PAGES, BANKS, before, SIZE, item[i].bank, item[i].offset, plain + item[i].start, item[i].length).count;
+    WANT(count == 1 + 1 + 13 + 1);
+    LIST_DONE(list(item, ITEMS, 104), count);
+    WANT(memcmp(before, room, SIZE) == 0);
+    WANT(reads(1, 0x1f0, plain, 8) && reads(1, 0x1f8, plain + 100, 2) && reads(1, 0x1fa, plain + 7, 1) && reads(1, 0x1fb, plain + 103, 1) &&
+         reads(1, 0x1fc, plain + 12, 4) && reads(4, 0x237, plain, 1));
+    LIST_DONE(list(NULL, 0, 104), 0);
+    LIST_DONE(hf_patch_list(key, 16, PAGES, BANKS, room, SIZE, NULL, 0, NULL, 0), 0);
+    WANT(memcmp(before, room, SIZE) == 0);
+}
+
+/* 64 items, all on one slot, from bytes at any address; and one more. */
+static void make_long_list(void)
+{
+    hf_item item[HF_ITEMS_MAX + 1];
+    uint32_t count = 0;
+    for (uint32_t i = 0; i <= HF_ITEMS_MAX; i++) {
+        item[i] = (hf_item){2, 0x100 + 3 * i, i, 4};
+        count += i < HF_ITEMS_MAX ? 16 - 3 * i / 16 : 0;
+    }
+    for (size_t at = 0; at < PLACES; at++) {
+        seal_all();
+        LIST_DONE(hf_patch_list(key, 16, PAGES, BANKS, room, SIZE, item, HF_ITEMS_MAX, plain + at, HF_ITEMS_MAX + 3), count);
+        for (uint32_t i = 0; i < HF_ITEMS_MAX; i++)
+            WANT(reads(2, 0x100 + 3 * i, plain + at + i, i + 1 < HF_ITEMS_MAX ? 3 : 4));
+        memcpy(before, room, SIZE);
+        LIST_REFUSED(hf_patch_list(key, 16, PAGES, BANKS, room, SIZE, item, HF_ITEMS_MAX + 1, plain, HF_PAGE), HF_TOO_MANY, 0);
+        WANT(memcmp(before, room, SIZE) == 0);
+    }
+}
+
+/* A list is refused by its item at place 2, between those that would be taken. */
+static void refuse_item(hf_item refused, uint32_t number, int line)
+{
+    const hf_item item[] = {{0, 0, 0, 9}, {4, 0x17, 1, 16}, refused, {3, 0x2ff, 5, 1}, {9, 9, 9, 9}};
+    answers_list(list(item, 5, HF_PAGE + 8), number, 0, 2, line);
+    want(memcmp(before, room, SIZE) == 0, line);
+}
+#define ITEM_REFUSED(number, ...) refuse_item((hf_item){__VA_ARGS__}, (number), __LINE__)
+
+static void meet_refused_lists(void)
+{
+    static const hf_item wrong_items[HF_ITEMS_MAX + 1]; /* each of length 0 */
+    enum { LENT = HF_PAGE + 8 };
+    seal_all();
+    room[5 * HF_RECORD] ^= 1; /* bank 1, page 2 */
+    memcpy(before, room, SIZE);
+
+    /* As a whole, whatever is in it. */
+    LIST_REFUSED(hf_patch_list(NULL, 0, 0, 0, NULL, 0, NULL, 0, NULL, 0), HF_KEY_LENGTH, 0);
+    LIST_REFUSED(hf_patch_list(key, 16, 0, 1, NULL, 0, wrong_items, 65, NULL, 0), HF_GEOMETRY, 0);
+    LIST_REFUSED(hf_patch_list(key, 16, 1, 257, NULL, 0, NULL, 0, NULL, 0), HF_GEOMETRY, 0);
+    LIST_REFUSED(hf_patch_list(key, 16, PAGES, BANKS, room, SIZE - 1, wrong_items, 65, NULL, 0), HF_IMAGE_LENGTH, 0);
+    LIST_REFUSED(hf_patch_list(key, 16, PAGES, BANKS, NULL, 0, NULL, 0, NULL, 0), HF_IMAGE_LENGTH, 0);
+    LIST_REFUSED(hf_patch_list(key, 16, PAGES, BANKS, room, SIZE, wrong_items, 65, NULL, 0), HF_TOO_MANY, 0);
+    LIST_REFUSED(hf_patch_list(key, 16, PAGES, BANKS, room, SIZE, wrong_items, 64, NULL, 0), HF_LENGTH, 0);
+
+    /* By an item: 9 before 6, 6 before 7, 7 before 8. A sum of start and length does not wrap. */
+    ITEM_REFUSED(HF_OUTSIDE, BANKS, 0, 0, LENT + 1);
+    ITEM_REFUSED(HF_OUTSIDE, 1, 0x200, LENT, 1);
+    ITEM_REFUSED(HF_OUTSIDE, 0, 0, LENT + 1, 0);
+    ITEM_REFUSED(HF_OUTSIDE, 0, 0, UINT32_MAX, 2);
+    ITEM_REFUSED(HF_OUTSIDE, 0, 0, 2, UINT32_MAX);
+    ITEM_REFUSED(HF_OUTSIDE, 0, 0, UINT32_MAX, UINT32_MAX);
+    ITEM_REFUSED(HF_PLACE, BANKS, 0, LENT, 0);
+    ITEM_REFUSED(HF_PLACE, 1, PAGES * HF_PAGE, 0, 1);
+    ITEM_REFUSED(HF_PLACE, UINT32_MAX, UINT32_MAX, 0, 1);
+    ITEM_REFUSED(HF_LENGTH, 1, 0x200, LENT, 0);
+    ITEM_REFUSED(HF_LENGTH, 0, 0, 0, HF_PAGE + 1);
+    ITEM_REFUSED(HF_LENGTH, 1, 0x2ff, 0, 2);
+    ITEM_REFUSED(HF_OTHER_RECORD, 1, 0x200, 0, HF_PAGE);
+
+    /* The first that is refused is named, whatever its number. */
+    static const hf_item two[] = {{1, 0x200, 0, 1}, {0, 0, 99, 1}};
+    LIST_REFUSED(list(two, 2, 1), HF_OTHER_RECORD, 0);
+    LIST_REFUSED(list(two + 1, 1, 1), HF_OUTSIDE, 0);
+    WANT(memcmp(before, room, SIZE) == 0);
+}
+
 /* The block of zeros under the key of zeros, whose enciphered form is published. */
 static void turn_a_block(void)
 {
@@ -101,8 +216,11 @@ int main(void)
     for (size_t at = 0; at < PLACES; at++)
         use_unaligned(at);
     meet_refusals();
+    make_lists();
+    make_long_list();
+    meet_refused_lists();
     turn_a_block();
-    for (uint32_t number = HF_DONE; number <= HF_OTHER_RECORD + 1; number++)
+    for (uint32_t number = HF_DONE; number <= HF_TOO_MANY + 1; number++)
         WANT(hf_text(number)[0] != '\0');
     return wrong;
 }

@@ -28,12 +28,14 @@ static const char HELP_READ[] =
 
 static const char HELP_PATCH[] =
     "Replaces plain bytes of a bank. BYTES is hex text, or @FILE for the bytes of a\n"
-    "file. They may run over pages, but stay inside the bank. Every page is judged\n"
-    "before the image is written, in one step at the end: a refused or interrupted\n"
-    "patch leaves the image as it was.\n"
+    "file. They may run over pages, but stay inside the bank. More places may follow,\n"
+    "each with its bytes, up to 64 in all; they are patched in their order. Every page\n"
+    "of every place is judged before the image is written, in one step at the end: a\n"
+    "refused or interrupted patch leaves the image as it was.\n"
     "\n"
     "  hf patch --key @box.key --pages 64 --banks 4 game.img 3:0x0237 a5\n"
-    "  hf patch --key @box.key --pages 64 --banks 4 game.img 0:0x3f00 @fix.bin\n";
+    "  hf patch --key @box.key --pages 64 --banks 4 game.img 0:0x3f00 @fix.bin\n"
+    "  hf patch --key @box.key --pages 64 --banks 4 game.img 3:0x0237 a5 0:0 00ff\n";
 
 static const char HELP_LIST[] =
     "Prints a line for each slot, with bank and page in hex: ok, or wrong where the\n"
@@ -60,10 +62,10 @@ static const char HELP_OPTIONS[] =
     "usage or a file that cannot be read or written.\n";
 
 const struct command commands[] = {
-    {"seal", {"ROM", "IMAGE"}, false, HELP_SEAL, seal},
-    {"read", {"IMAGE", "BANK:OFFSET", "LENGTH"}, true, HELP_READ, read_span},
-    {"patch", {"IMAGE", "BANK:OFFSET", "BYTES"}, false, HELP_PATCH, patch},
-    {"list", {"IMAGE"}, false, HELP_LIST, list},
+    {"seal", {"ROM", "IMAGE"}, false, false, HELP_SEAL, seal},
+    {"read", {"IMAGE", "BANK:OFFSET", "LENGTH"}, true, false, HELP_READ, read_span},
+    {"patch", {"IMAGE", "BANK:OFFSET", "BYTES"}, false, true, HELP_PATCH, patch},
+    {"list", {"IMAGE"}, false, false, HELP_LIST, list},
 };
 enum { COMMANDS = sizeof commands / sizeof commands[0] };
 
@@ -82,7 +84,7 @@ static void print_line(const char *before, const struct command *command, FILE *
         fputs(" [-o FILE]", stream);
     for (int i = 0; command->arguments[i] != NULL; i++)
         fprintf(stream, " %s", command->arguments[i]);
-    fputc('\n', stream);
+    fputs(command->repeats ? " ..\n" : "\n", stream);
 }
 
 static void print_lines(const struct command *command, FILE *stream)

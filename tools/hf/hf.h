@@ -10,22 +10,24 @@
 /* The exit statuses: done, refused, and wrong usage or a file that cannot be read or written. */
 enum status { DONE = 0, REFUSED = 1, WRONG = 2 };
 
-/* The options that take a value, and the most arguments that a command takes. */
+/* The options that take a value, and how many arguments a command names and takes at most: an image, and places with what goes there. */
 enum option { KEY, PAGES, BANKS, OUTPUT, OPTIONS };
-enum { ARGUMENTS = 3 };
+enum { NAMED = 3, PLACES = 64, ARGUMENTS = 1 + 2 * PLACES };
 
 /* What the command line asks for. */
 struct request {
     const struct command *command;
     char *option[OPTIONS]; /* null where it was not given */
     const char *argument[ARGUMENTS];
+    int arguments;
 };
 
 /* One of seal, read, patch and list. */
 struct command {
     const char *name;
-    const char *arguments[ARGUMENTS + 1]; /* their names, then null */
+    const char *arguments[NAMED + 1]; /* their names, then null */
     bool has_output;
+    bool repeats; /* its last two arguments may be given again and again */
     const char *help;
     enum status (*run)(const struct request *request);
 };

@@ -53,8 +53,16 @@ static void take_option(struct words *words, struct request *request)
     request->option[option] = words->word[words->at];
 }
 
+/* The name of the command's argument at that place, or null where it takes none there. */
+static const char *argument_name(const struct command *command, int at)
+{
+    if (command->repeats && at >= NAMED && at < ARGUMENTS)
+        return command->arguments[NAMED - 2 + (at - NAMED) % 2];
+    return at < NAMED ? command->arguments[at] : NULL;
+}
+
 /* Takes the word as the command, or as its next argument. */
-static void take_argument(const char *word, struct request *request, int *arguments)
+static void take_argument(const char *word, struct request *request)
 {
     if (request->command == NULL) {
         request->command = command_named(word);
@@ -62,15 +70,15 @@ static void take_argument(const char *word, struct request *request, int *argume
             fail_usage(NULL, "there is no command %s; the commands are seal, read, patch and list", word);
         return;
     }
-    const char *name = request->command->arguments[*arguments];
+    const char *name = argument_name(request->command, request->arguments);
     if (name == NULL)
-        fail_usage(request->command, "%s takes %d argument%s, and more are given", request->command->name, *arguments,
-                   plural((size_t)*arguments));
+        fail_usage(request->command, "%s takes %d argument%s, and more are given", request->command->name, request->arguments,
+                   plural((size_t)request->arguments));
     /* No bytes are for the library to refuse; no file has an empty name. */
     if (word[0] == '\0' && strcmp(name, "BYTES") != 0)
         fail_usage(request->command, "%s is empty", name);
-    request->argument[*arguments] = word;
-    ++*arguments;
+    request->argument[request->arguments] = word;
+    request->arguments++;
 }
 
 /* Ends with an error that names everything that is missing. */
@@ -84,6 +92,8 @@ static void want_all(const struct request *request)
     for (int i = 0; command->arguments[i] != NULL; i++)
         if (request->argument[i] == NULL)
             strcat(strcat(missing, " "), command->arguments[i]);
+    if (request->arguments > NAMED && (request->arguments - NAMED) % 2 == 1)
+        strcat(strcat(missing, " "), command->arguments[NAMED - 1]);
     if (missing[0] != '\0')
         fail_usage(command, "%s: missing:%s", command->name, missing);
     const char *output = request->option[OUTPUT];
@@ -98,11 +108,10 @@ struct request request_of(int count, char **word)
     struct words words = {count, 1, word};
     struct request request = {0};
     bool only_arguments = false, help = false;
-    int arguments = 0;
     for (; words.at < count; words.at++) {
         const char *now = word[words.at];
         if (only_arguments || now[0] != '-' || now[1] == '\0')
-            take_argument(now, &request, &arguments);
+            take_argument(now, &request);
         else if (strcmp(now, "--") == 0)
             only_arguments = true;
         else if (strcmp(now, "--help") == 0 || strcmp(now, "-h") == 0)

@@ -48,7 +48,7 @@ void refuse(uint32_t number, const struct image *image, const struct span *asked
     case HF_PLACE:
         refuse_place(image, asked, done);
     case HF_LENGTH:
-        fail(REFUSED, "refused by 7: no bytes are asked for, but at least one must be");
+        fail(REFUSED, "refused by 7: no bytes are asked for at %u:0x%04x, but at least one must be", asked->bank, asked->offset);
     case HF_OTHER_RECORD:
         fail(REFUSED, "refused by 8: the record of bank %u, page %u does not open to its place: the key or the geometry is another, or the "
                       "image was changed",

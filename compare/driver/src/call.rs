@@ -1,6 +1,6 @@
 //! A call with every byte that it lends, and its answer.
 
-/// The library's five entries.
+/// The library's six entries.
 #[derive(Clone, Copy, PartialEq, Eq, Debug)]
 pub enum Entry {
     Encipher,
@@ -8,14 +8,37 @@ pub enum Entry {
     Seal,
     Read,
     Patch,
+    List,
 }
 
-/// What a call answers: a refusal's number or 0, and a count.
+/// A patch of a list; its bytes are among those that are lent.
+#[repr(C)]
+#[derive(Clone, Copy, PartialEq, Eq, Debug)]
+pub struct Item {
+    pub bank: u32,
+    pub offset: u32,
+    pub start: u32,
+    pub length: u32,
+}
+
+/// What a call answers: a refusal's number or 0, a count, and the place of the item that is refused. Only a list answers a place.
 #[repr(C)]
 #[derive(Clone, Copy, PartialEq, Eq, Debug)]
 pub struct Answer {
     pub number: u32,
     pub count: u32,
+    pub place: u32,
+}
+
+impl Answer {
+    pub fn done(count: u32) -> Answer {
+        Answer { number: 0, count, place: 0 }
+    }
+
+    /// Refused, but not for an item.
+    pub fn refused(number: u32) -> Answer {
+        Answer { number, count: 0, place: 0 }
+    }
 }
 
 /// A call, before it was made or after. The block directions take the key and the bytes alone.
@@ -29,14 +52,16 @@ pub struct Call {
     pub bank: u32,
     /// The page number of a seal, the offset of a read or a patch.
     pub at: u32,
-    /// The block, the plain bytes, the output or the patch.
+    /// The patches of a list, which names neither bank nor offset itself.
+    pub items: Vec<Item>,
+    /// The block, the plain bytes, the output, the patch, or what the items of a list take their bytes from.
     pub bytes: Vec<u8>,
 }
 
 impl Call {
     /// A block direction.
     pub fn on_block(entry: Entry, key: Vec<u8>, block: Vec<u8>) -> Call {
-        Call { entry, key, pages: 0, banks: 0, image: Vec::new(), bank: 0, at: 0, bytes: block }
+        Call { entry, key, pages: 0, banks: 0, image: Vec::new(), bank: 0, at: 0, items: Vec::new(), bytes: block }
     }
 }
 

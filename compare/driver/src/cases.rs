@@ -2,8 +2,8 @@
 
 use crate::tally::{Check, Kind};
 use cipher::KeyInit;
-use driver::call::{Call, Entry};
-use driver::oracle::{self, PAGE, RECORD};
+use driver::call::{Call, Entry, Item};
+use driver::oracle::{self, ITEMS, PAGE, RECORD};
 use driver::random::Random;
 use twofish::Twofish;
 
@@ -40,6 +40,18 @@ pub fn single(seed: u64, check: &mut Check) -> Result<(), String> {
     Ok(())
 }
 
+/// One list on a small image.
+pub fn list(seed: u64, check: &mut Check) -> Result<(), String> {
+    let mut r = Random::new(seed);
+    let key = r.bytes(TAKEN[(seed % 3) as usize]);
+    let (pages, banks) = (1 + r.below(5), 1 + r.below(4));
+    let image = if r.once_in(3) { image(&mut r, &key, pages, banks) } else { right_image(&mut r, &key, pages, banks) };
+    let mut call = list_call(&mut r, &key, (pages, banks), image);
+    spoil(&mut r, &mut call);
+    check.call(Kind::Lists, &mut r, call)?;
+    Ok(())
+}
+
 /// A series of calls on one image, whose records are damaged now and then between them.
 pub fn series(seed: u64, check: &mut Check) -> Result<(), String> {
     let mut r = Random::new(seed);
@@ -50,7 +62,8 @@ pub fn series(seed: u64, check: &mut Check) -> Result<(), String> {
         if r.once_in(8) {
             damage(&mut r, &mut held);
         }
-        let mut call = call(&mut r, &key, (pages, banks), held.clone());
+        let make = if r.once_in(6) { list_call } else { call };
+        let mut call = make(&mut r, &key, (pages, banks), held.clone());
         spoil(&mut r, &mut call);
         let after = check.call(Kind::Series, &mut r, call)?;
         if after.image.len() == held.len() {
@@ -60,19 +73,24 @@ pub fn series(seed: u64, check: &mut Check) -> Result<(), String> {
     Ok(())
 }
 
-/// Calls on a large image, at its first and last places and at one between them.
+/// Calls on a large image, at its first and last places and at one between them, and a list of all three.
 pub fn large(seed: u64, check: &mut Check) -> Result<(), String> {
     let mut r = Random::new(seed);
     let key = r.bytes(TAKEN[(seed % 3) as usize]);
     let (pages, banks) = r.one(&[(256, 256), (255, 256), (256, 255), (64, 200), (1, 256), (256, 1)]);
     let mut held = vec![0; RECORD * pages as usize * banks as usize];
     r.fill(&mut held);
-    for (bank, page) in [(0, 0), (banks - 1, pages - 1), (r.below(banks), r.below(pages))] {
+    let places = [(0, 0), (banks - 1, pages - 1), (r.below(banks), r.below(pages))];
+    for place in places {
         for entry in [Entry::Seal, Entry::Read, Entry::Patch, Entry::Read] {
-            let call = call_at(&mut r, entry, &key, (pages, banks), held, (bank, page));
+            let call = call_at(&mut r, entry, &key, (pages, banks), held, place);
             held = check.call(Kind::Large, &mut r, call)?.image;
         }
     }
+    let items = places.map(|place| item(&mut r, place, PAGE as u32)).to_vec();
+    let call =
+        Call { entry: Entry::List, items, bytes: r.bytes(PAGE), ..call_at(&mut r, Entry::Patch, &key, (pages, banks), held, (0, 0)) };
+    check.call(Kind::Large, &mut r, call)?;
     Ok(())
 }
 
@@ -97,6 +115,13 @@ fn image(r: &mut Random, key: &[u8], pages: u32, banks: u32) -> Vec<u8> {
         }
     }
     image
+}
+
+/// An image whose every record is right.
+fn right_image(r: &mut Random, key: &[u8], pages: u32, banks: u32) -> Vec<u8> {
+    let t = Twofish::new_from_slice(key).expect("a key that is taken");
+    let places = (0..banks).flat_map(|bank| (0..pages).map(move |page| (bank as u8, page as u8)));
+    places.flat_map(|(bank, page)| oracle::sealed(&t, bank, page, &r.bytes(PAGE))).collect()
 }
 
 /// A first block that deciphers to the place block but for one bit.
@@ -130,19 +155,70 @@ fn call(r: &mut Random, key: &[u8], (pages, banks): (u32, u32), image: Vec<u8>) 
 
 /// The same on a bank's page, with a first byte and a length that are often those of a block or of the page.
 fn call_at(r: &mut Random, entry: Entry, key: &[u8], (pages, banks): (u32, u32), image: Vec<u8>, (bank, page): (u32, u32)) -> Call {
-    let first = match r.below(4) {
+    let first = first(r);
+    let (at, room) = if entry == Entry::Seal { (page, 256) } else { (256 * page + first, 256 - first) };
+    let length = length(r, room);
+    let bytes = r.bytes(length as usize);
+    Call { entry, key: key.to_vec(), pages, banks, image, bank, at, items: Vec::new(), bytes }
+}
+
+/// An access' first byte in its page.
+fn first(r: &mut Random) -> u32 {
+    match r.below(4) {
         0 => r.one(&[0, 15, 16, 17, 240, 254, 255]),
         1 => 16 * r.below(16),
         _ => r.below(256),
-    };
-    let (at, room) = if entry == Entry::Seal { (page, 256) } else { (256 * page + first, 256 - first) };
-    let length = match r.below(4) {
+    }
+}
+
+/// An access' length, where the page has so much room.
+fn length(r: &mut Random, room: u32) -> u32 {
+    match r.below(4) {
         0 => 1,
         1 => room,
         _ => 1 + r.below(room),
-    };
+    }
+}
+
+/// A list on an image, on pages anywhere or all on one. Its items share their bytes, and once in three one of them is wrong.
+fn list_call(r: &mut Random, key: &[u8], (pages, banks): (u32, u32), image: Vec<u8>) -> Call {
+    let many = if r.once_in(16) { r.one(&[ITEMS - 1, ITEMS, ITEMS + 1]) } else { r.below(7) as usize };
+    let length = 256 + r.below(300);
     let bytes = r.bytes(length as usize);
-    Call { entry, key: key.to_vec(), pages, banks, image, bank, at, bytes }
+    let one = r.once_in(3).then(|| (r.below(banks), r.below(pages)));
+    let mut items: Vec<Item> = (0..many)
+        .map(|_| {
+            let place = one.unwrap_or_else(|| (r.below(banks), r.below(pages)));
+            item(r, place, length)
+        })
+        .collect();
+    if !items.is_empty() && r.once_in(3) {
+        let i = r.below(many as u32) as usize;
+        spoil_item(r, &mut items[i], (pages, banks), length);
+    }
+    Call { entry: Entry::List, key: key.to_vec(), pages, banks, image, bank: 0, at: 0, items, bytes }
+}
+
+/// An item on a bank's page, of so many bytes that are lent.
+fn item(r: &mut Random, (bank, page): (u32, u32), lent: u32) -> Item {
+    let first = first(r);
+    let length = length(r, 256 - first);
+    let start = if r.once_in(4) { lent - length } else { r.below(lent - length + 1) };
+    Item { bank, offset: 256 * page + first, start, length }
+}
+
+/// Up to two of an item's numbers made wrong, or brought to an edge.
+fn spoil_item(r: &mut Random, item: &mut Item, (pages, banks): (u32, u32), lent: u32) {
+    for _ in 0..1 + r.below(2) {
+        match r.below(6) {
+            0 => item.bank = number(r, banks),
+            1 => item.offset = number(r, 256 * pages),
+            2 => item.offset = item.offset / 256 * 256 + 255,
+            3 => item.start = number(r, lent - item.length.min(lent)),
+            4 => item.length = r.one(&[0, 1, 255, 256, 257, u32::MAX - item.start, 0u32.wrapping_sub(item.start)]),
+            _ => (item.start, item.length) = r.one(&[(lent, 0), (lent + 1, 0), (0, lent), (u32::MAX, 2), (2, u32::MAX)]),
+        }
+    }
 }
 
 /// Up to three of the call's parts made wrong, or brought to an edge.

@@ -44,6 +44,7 @@ fn wanted() -> Option<Wanted> {
 fn case(seed: u64, check: &mut Check) -> Result<(), String> {
     cases::blocks(seed, check)?;
     cases::single(seed, check)?;
+    cases::list(seed, check)?;
     cases::series(seed, check)?;
     if seed.is_multiple_of(LARGE) {
         cases::large(seed, check)?;

@@ -1,6 +1,6 @@
 //! The same calls made by the crate: a short CBC over its two block directions, written from the rules and not from the library.
 
-use crate::call::{Answer, Call, Entry};
+use crate::call::{Answer, Call, Entry, Item};
 use cipher::{BlockCipherDecBackend, BlockCipherEncBackend, InOut, KeyInit};
 use std::ops::Range;
 use twofish::Twofish;
@@ -51,40 +51,80 @@ pub fn opened(t: &Twofish, record: &[u8]) -> Vec<u8> {
     held
 }
 
+/// The most items of a list.
+pub const ITEMS: usize = 64;
+
 /// Makes the call.
 pub fn make(call: &mut Call) -> Answer {
-    match made(call) {
-        Ok(count) => Answer { number: 0, count },
-        Err(number) => Answer { number, count: 0 },
+    made(call).map_or_else(|refused| refused, Answer::done)
+}
+
+/// The number of a refusal that is not an item's.
+impl From<u32> for Answer {
+    fn from(number: u32) -> Answer {
+        Answer::refused(number)
     }
 }
 
-/// The count, or the number of the first refusal that holds.
-fn made(call: &mut Call) -> Result<u32, u32> {
+/// The count, or the first refusal that holds.
+fn made(call: &mut Call) -> Result<u32, Answer> {
     let t = Twofish::new_from_slice(&call.key).map_err(|_| 1u32)?;
     match call.entry {
         Entry::Encipher => encipher(&t, block_of(call)?),
         Entry::Decipher => decipher(&t, block_of(call)?),
         Entry::Seal => {
-            let Place { bank, page, record, .. } = placed(call)?;
+            let length = call.bytes.len();
+            let Place { bank, page, record, .. } = placed(call, call.bank, call.at, 0, length)?;
             call.image[record].copy_from_slice(&sealed(&t, bank, page, &call.bytes));
             return Ok(17);
         }
         Entry::Read => {
-            let place = placed(call)?;
-            let held = held(&t, call, &place)?;
             let length = call.bytes.len();
+            let place = reached(call, call.bank, call.at, length)?;
+            let held = held(&t, call, &place)?;
             call.bytes.copy_from_slice(&held[place.first..place.first + length]);
         }
-        Entry::Patch => {
-            let place = placed(call)?;
-            let mut held = held(&t, call, &place)?;
-            held[place.first..place.first + call.bytes.len()].copy_from_slice(&call.bytes);
-            call.image[place.record].copy_from_slice(&sealed(&t, place.bank, place.page, &held));
-            return Ok(16 - place.first as u32 / 16);
-        }
+        Entry::Patch => return Ok(patched(&t, call, call.bank, call.at, &call.bytes.clone())?),
+        Entry::List => return listed(&t, call),
     }
     Ok(0)
+}
+
+/// The patches of a list made one by one, in its order. Every one is judged on the image as it came, before the first is made.
+fn listed(t: &Twofish, call: &mut Call) -> Result<u32, Answer> {
+    formed(call)?;
+    if call.items.len() > ITEMS {
+        return Err(Answer::refused(10));
+    }
+    for (place, item) in (0..).zip(&call.items) {
+        judged(t, call, item).map_err(|number| Answer { number, count: 0, place })?;
+    }
+    let mut count = 0;
+    for Item { bank, offset, start, length } in call.items.clone() {
+        let bytes = call.bytes[start as usize..][..length as usize].to_vec();
+        count += patched(t, call, bank, offset, &bytes).expect("an item that is taken");
+    }
+    Ok(count)
+}
+
+/// Whether an item is taken, or the number of its first refusal.
+fn judged(t: &Twofish, call: &Call, item: &Item) -> Result<(), u32> {
+    let length = item.length as usize;
+    if item.start as usize + length > call.bytes.len() {
+        return Err(9);
+    }
+    let place = reached(call, item.bank, item.offset, length)?;
+    held(t, call, &place)?;
+    Ok(())
+}
+
+/// A patch made, and its count.
+fn patched(t: &Twofish, call: &mut Call, bank: u32, offset: u32, bytes: &[u8]) -> Result<u32, u32> {
+    let place = reached(call, bank, offset, bytes.len())?;
+    let mut held = held(t, call, &place)?;
+    held[place.first..place.first + bytes.len()].copy_from_slice(bytes);
+    call.image[place.record].copy_from_slice(&sealed(t, place.bank, place.page, &held));
+    Ok(16 - place.first as u32 / 16)
 }
 
 /// The block of a block direction, or refusal 3.
@@ -100,23 +140,33 @@ struct Place {
     first: usize,
 }
 
-/// The place, or the lowest refusal from 4 to 7 that holds. Every product is taken wide enough.
-fn placed(call: &Call) -> Result<Place, u32> {
-    let [pages, banks, bank, at] = [call.pages, call.banks, call.bank, call.at].map(|n| n as usize);
-    let (page, first) = if call.entry == Entry::Seal { (at, 0) } else { (at / PAGE, at % PAGE) };
+/// Refusals 4 and 5. The product is taken wide enough.
+fn formed(call: &Call) -> Result<(), u32> {
+    let [pages, banks] = [call.pages, call.banks].map(|n| n as usize);
     if !(1..=256).contains(&pages) || !(1..=256).contains(&banks) {
         return Err(4);
     }
     if call.image.len() != RECORD * pages * banks {
         return Err(5);
     }
-    if bank >= banks || page >= pages {
+    Ok(())
+}
+
+/// The place of an access by its offset.
+fn reached(call: &Call, bank: u32, offset: u32, length: usize) -> Result<Place, u32> {
+    placed(call, bank, offset / 256, offset as usize % PAGE, length)
+}
+
+/// The place of a page's bytes from the first on, or the lowest refusal from 4 to 7 that holds.
+fn placed(call: &Call, bank: u32, page: u32, first: usize, length: usize) -> Result<Place, u32> {
+    formed(call)?;
+    if bank >= call.banks || page >= call.pages {
         return Err(6);
     }
-    if call.bytes.is_empty() || call.bytes.len() > PAGE || first + call.bytes.len() > PAGE {
+    if length == 0 || length > PAGE || first + length > PAGE {
         return Err(7);
     }
-    let start = RECORD * (bank * pages + page);
+    let start = RECORD * (bank * call.pages + page) as usize;
     Ok(Place { bank: bank as u8, page: page as u8, record: start..start + RECORD, first })
 }
 

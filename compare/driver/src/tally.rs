@@ -1,6 +1,6 @@
 //! A call made by the library and by the crate and held side by side, and the count of what was met.
 
-use driver::call::{Answer, Call, Entry, hex};
+use driver::call::{Answer, Call, Entry, Item, hex};
 use driver::random::Random;
 use driver::{library, oracle};
 use std::collections::BTreeSet;
@@ -12,26 +12,28 @@ pub enum Kind {
     Bench,
     Blocks,
     Single,
+    Lists,
     Series,
     Large,
     Huge,
 }
 
-const KINDS: [Kind; 6] = [Kind::Bench, Kind::Blocks, Kind::Single, Kind::Series, Kind::Large, Kind::Huge];
+const KINDS: [Kind; 7] = [Kind::Bench, Kind::Blocks, Kind::Single, Kind::Lists, Kind::Series, Kind::Large, Kind::Huge];
 
-const ENTRIES: [(Entry, &[usize]); 5] = [
+const ENTRIES: [(Entry, &[usize]); 6] = [
     (Entry::Encipher, &[0, 1, 3]),
     (Entry::Decipher, &[0, 1, 3]),
     (Entry::Seal, &[0, 1, 4, 5, 6, 7]),
     (Entry::Read, &[0, 1, 4, 5, 6, 7, 8]),
     (Entry::Patch, &[0, 1, 4, 5, 6, 7, 8]),
+    (Entry::List, &[0, 1, 4, 5, 6, 7, 8, 9, 10]),
 ];
 
 /// How many calls of each kind were made, which answers each entry gave, and which lengths of key and block the directions met.
 #[derive(Default)]
 pub struct Check {
     calls: [u64; KINDS.len()],
-    answers: [[u64; 9]; ENTRIES.len()],
+    answers: [[u64; 11]; ENTRIES.len()],
     lengths: BTreeSet<(usize, usize)>,
 }
 
@@ -100,11 +102,17 @@ fn report(kind: Kind, call: &Call, wanted: (Answer, &Call), got: (Answer, &Call)
         format!("  crate:   {:?}", wanted.0),
         format!("  library: {:?}", got.0),
         lent("key", &call.key, &wanted.1.key, &got.1.key),
+        format!("  items, bank:offset start+length:{}", items(&call.items)),
         lent("image", &call.image, &wanted.1.image, &got.1.image),
         lent("bytes", &call.bytes, &wanted.1.bytes, &got.1.bytes),
     ];
     lines.extend(damage.iter().map(|line| format!("  {line}")));
     lines.join("\n")
+}
+
+/// The items of a list.
+fn items(items: &[Item]) -> String {
+    items.iter().map(|item| format!(" {}:{:#06x} {}+{}", item.bank, item.offset, item.start, item.length)).collect::<Vec<_>>().join(",")
 }
 
 /// A buffer before the call, and where it differs afterwards. Of one above 4,096 bytes the seed makes the bytes again.

@@ -9,7 +9,7 @@ use Rattle.twofish.specs.declared.Twofish.{Twofish}
 use Rattle.block.specs.Block.{enciphered, deciphered, Schedule}
 use Rattle.sealed.specs.declared.Geometry.{Geometry}
 use Rattle.sealed.specs.Record.{filled, looked, page_of}
-use Rattle.sealed.specs.Image.{slot, image_length, offset_reached, within_page, record_at, refusals, seal_number, access_number, sealed_in, patched_in, read_from}
+use Rattle.sealed.specs.Image.{slot, image_length, offset_reached, within_page, record_at, image_refusals, refusals, seal_number, access_number, sealed_in, patched_in, read_from}
 use Rattle.sealed.proofs.ImageLaws.{There, takes}
 use Rattle.sealed.proofs.AccessLaws.{Opens}
 use Rattle.sealed.proofs.OpenLaws.{filled-page}
@@ -47,7 +47,7 @@ module _ (t : Twofish) (G : Geometry) (s : Schedule t) (slots : List Slot) (h : 
     -- done: its record opens to the slot's page
     module _ (e : slot_access t G slots bank offset n ≡ 0) where
       passed : (given (before_look t G bank offset n) ≡ 0) × (is_raw (slot_of G bank (offset / 256) slots) ≡ false)
-      unfolding slot_access before_look refusals given
+      unfolding slot_access before_look refusals image_refusals given
       passed =
           let k = given_other 0 (before_look t G bank offset n) (8 when is_raw (slot_of G bank (offset / 256) slots) ∷ []) tt e in
           (given_after (before_look t G bank offset n) [] k.0, (given_none 7 _ [] k.1).0)

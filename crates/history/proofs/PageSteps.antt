@@ -9,7 +9,7 @@ use Rattle.twofish.specs.declared.Twofish.{Twofish}
 use Rattle.block.specs.Block.{enciphered}
 use Rattle.sealed.specs.declared.Geometry.{Geometry}
 use Rattle.sealed.specs.Record.{filled, sealed}
-use Rattle.sealed.specs.Image.{slot, refusals, seal_number}
+use Rattle.sealed.specs.Image.{slot, image_refusals, refusals, seal_number}
 use Rattle.sealed.proofs.ImageLaws.{There, slot-within, takes}
 use Rattle.sealed.proofs.PageLaws.{filled-bytes, patched-bytes}
 use Rattle.history.specs.Calls.{Call, Seal, Patch, Read, WritesBytes, before_look}
@@ -66,7 +66,7 @@ module _ (t : Twofish) (G : Geometry) where
     -- a patch or a read
     module _ (bank offset n : ℕ) where
       same_access : slot_access t G (as_slots pages) bank offset n ≡ given (before_look t G bank offset n)
-      unfolding slot_access before_look refusals given
+      unfolding slot_access before_look refusals image_refusals given
       same_access =
           given_last (before_look t G bank offset n) (8 when is_raw (slot_of G bank (offset / 256) (as_slots pages)) ∷ []) []
           (λ e. ap (λ (x : Slot). given (8 when is_raw x ∷ [])) (slot_of-pages bank (offset / 256) (reaches t G bank offset n e).there))
@@ -107,7 +107,7 @@ module _ (t : Twofish) (G : Geometry) where
 
 -- 8 is none of the refusals before a look
 not_eight : (t : Twofish) (G : Geometry) (long : ℕ) (placed fits : Bool) → given (refusals t G long placed fits) ≢ 8
-unfolding refusals given
+unfolding refusals image_refusals given
 not_eight t G long placed fits e = let none = (given_other 8 (refusals t G long placed fits) [] tt e).1 in omega (arith, none)
 
 pub never_eight : (t : Twofish) (G : Geometry) (c : Call) → pages_number t G c ≢ 8

@@ -12,7 +12,9 @@ use Rattle.twofish.proofs.AnswerLaws.{never_done}
 use Rattle.twofish.proofs.ScheduleLaws.{taken_units}
 use borrow.Author.Tests.{ltb-true}
 use lib.Dec.{T}
-use Rattle.host.specs.Host.{schedule_of, keyed}
+use Rattle.boxful.specs.declared.ListAnswer.{ListAnswer}
+use Rattle.boxful.specs.Boxful.{Judged, list_answer}
+use Rattle.host.specs.Host.{schedule_of, keyed, keyed_list}
 
 -- a test by the number that it gives
 passed : (b : Bool) → ◌≡◌ {A = ℕ} 0 (cond (not b) 1 0) → b ≡ true
@@ -23,32 +25,38 @@ failed : (b : Bool) (n : ℕ) → (n ≡ 0 → ⊥) → n ≡ cond (not b) 1 0 �
 failed true n some e = absurd (some e)
 failed false n some e = (refl, e)
 
-module _ (key : List ℕ) (number : Twofish → ℕ) where
-  -- a key that is taken
+-- a key that is taken, and one that is refused
+module _ (key : List ℕ) where
   module _ (t : Twofish) (e : handed_back (Ok t) ≡ set_up key) where
-    pub its_schedule : t ≡ schedule_of key
+    key_taken : taken (length key) ≡ true
+    unfolding set_up key_number given handed_back
+    key_taken = passed (taken (length key)) (ap (λ (u : SetUp). u.number) e)
+
+    its_schedule : t ≡ schedule_of key
     unfolding schedule_of handed_back
     its_schedule = ap (λ (u : SetUp). u.schedule) e
 
-    pub its_number : number t ≡ keyed key number
-    unfolding set_up key_number given keyed handed_back
-    its_number =
-        let b = passed (taken (length key)) (ap (λ (u : SetUp). u.number) e) in
-        ap number its_schedule ∙ sym (ap (λ (c : Bool). cond c (number (schedule_of key)) 1) b)
+  key_refused : (e : Refusal) → handed_back (Err e) ≡ set_up key → (taken (length key) ≡ false) × (refusal_number e ≡ 1)
+  unfolding set_up key_number given handed_back
+  key_refused e h = failed (taken (length key)) (refusal_number e) (λ z. never_done e (sym z)) (ap (λ (u : SetUp). u.number) h)
+
+-- a call
+module _ (key : List ℕ) (number : Twofish → ℕ) where
+  module _ (t : Twofish) (e : handed_back (Ok t) ≡ set_up key) where
+    its_number : number t ≡ keyed key number
+    unfolding keyed
+    its_number = ap number (its_schedule key t e) ∙ sym (ap (λ (b : Bool). cond b (number (schedule_of key)) 1) (key_taken key t e))
 
     pub answered_under : (c : ℕ) (a : Answer) → a ≡ answer (number t) c → a ≡ answer (keyed key number) c
     answered_under c a h = h ∙ ap (λ (n : ℕ). answer n c) its_number
 
     pub left_under : (made : Twofish → List ℕ) (l s : List ℕ) → s ≡ leaves (number t) (made t) l → s ≡ leaves (keyed key number) (made (schedule_of key)) l
-    left_under made l s h = h ∙ ap₂ (λ (n : ℕ) (u : Twofish). leaves n (made u) l) its_number its_schedule
+    left_under made l s h = h ∙ ap₂ (λ (n : ℕ) (u : Twofish). leaves n (made u) l) its_number (its_schedule key t e)
 
-  -- a key that is refused
   module _ (e : Refusal) (h : handed_back (Err e) ≡ set_up key) where
-    pub first_number : (refusal_number e ≡ 1) × (1 ≡ keyed key number)
-    unfolding set_up key_number given keyed handed_back
-    first_number =
-        let b = failed (taken (length key)) (refusal_number e) (λ z. never_done e (sym z)) (ap (λ (u : SetUp). u.number) h) in
-        (b.1, sym (ap (λ (c : Bool). cond c (number (schedule_of key)) 1) b.0))
+    first_number : (refusal_number e ≡ 1) × (1 ≡ keyed key number)
+    unfolding keyed
+    first_number = let b = key_refused key e h in (b.1, sym (ap (λ (c : Bool). cond c (number (schedule_of key)) 1) b.0))
 
     pub answered_refused : (c : ℕ) (a : Answer) → a ≡ answer (refusal_number e) 0 → a ≡ answer (keyed key number) c
     unfolding answer
@@ -57,6 +65,37 @@ module _ (key : List ℕ) (number : Twofish → ℕ) where
     pub left_refused : (x l : List ℕ) → l ≡ leaves (keyed key number) x l
     unfolding leaves
     left_refused x l = ap (λ (n : ℕ). leaves n x l) first_number.1
+
+-- a list
+module _ (key : List ℕ) (comes_to : Twofish → Judged) where
+  module _ (t : Twofish) (e : handed_back (Ok t) ≡ set_up key) where
+    its_list : comes_to t ≡ keyed_list key comes_to
+    unfolding keyed_list
+    its_list =
+        ap comes_to (its_schedule key t e)
+        ∙ sym (ap (λ (b : Bool). cond b (comes_to (schedule_of key)) record { number = 1; place = 0 }) (key_taken key t e))
+
+    pub list_under : (c : ℕ) (a : ListAnswer) → a ≡ list_answer (comes_to t) c → a ≡ list_answer (keyed_list key comes_to) c
+    list_under c a h = h ∙ ap (λ (j : Judged). list_answer j c) its_list
+
+    pub list_left_under :
+        (made : Twofish → List ℕ) (l s : List ℕ) → s ≡ leaves (comes_to t).number (made t) l
+        → s ≡ leaves (keyed_list key comes_to).number (made (schedule_of key)) l
+    list_left_under made l s h = h ∙ ap₂ (λ (j : Judged) (u : Twofish). leaves j.number (made u) l) its_list (its_schedule key t e)
+
+  module _ (e : Refusal) (h : handed_back (Err e) ≡ set_up key) where
+    first_list : record { number = 1; place = 0 } ≡ keyed_list key comes_to
+    unfolding keyed_list
+    first_list = sym (ap (λ (c : Bool). cond c (comes_to (schedule_of key)) record { number = 1; place = 0 }) (key_refused key e h).0)
+
+    pub list_refused : (c : ℕ) (a : ListAnswer) → a ≡ record { number = refusal_number e; count = 0; place = 0 } → a ≡ list_answer (keyed_list key comes_to) c
+    unfolding list_answer
+    list_refused c a k =
+        k ∙ ap (λ (n : ℕ). record { number = n; count = 0; place = 0 }) (key_refused key e h).1 ∙ ap (λ (j : Judged). list_answer j c) first_list
+
+    pub list_left_refused : (x l : List ℕ) → l ≡ leaves (keyed_list key comes_to).number x l
+    unfolding leaves
+    list_left_refused x l = ap (λ (j : Judged). leaves j.number x l) first_list
 
 -- a key's schedule has a start that every call takes
 pub start_taken : (key : List ℕ) → taken (length key) ≡ true → (schedule_of key).start ≤ 2

@@ -6,6 +6,7 @@ use Rattle.host.proofs.hf_decipher.Reads as decipher
 use Rattle.host.proofs.hf_seal.Reads as seal
 use Rattle.host.proofs.hf_read.Reads as read
 use Rattle.host.proofs.hf_patch.Reads as patch
+use Rattle.host.proofs.hf_patch_list.Reads as patch_list
 
 pub hf_encipher_one : OneOutcome encipher.Post (λ κ s. s.1.0.now)
 hf_encipher_one κ a r r' s s' p p' = (p.0 ∙ sym p'.0, p.1 ∙ sym p'.1)
@@ -21,3 +22,6 @@ hf_read_one κ a r r' s s' p p' = (p.0 ∙ sym p'.0, p.1 ∙ sym p'.1)
 
 pub hf_patch_one : OneOutcome patch.Post (λ κ s. s.1.1.1.0.now)
 hf_patch_one κ a r r' s s' p p' = (p.0 ∙ sym p'.0, p.1 ∙ sym p'.1)
+
+pub hf_patch_list_one : OneOutcome patch_list.Post (λ κ s. s.1.1.1.0.now)
+hf_patch_list_one κ a r r' s s' p p' = (p.0 ∙ sym p'.0, p.1 ∙ sym p'.1)

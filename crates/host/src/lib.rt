@@ -1,4 +1,4 @@
-// What a C host links: the two block directions, and seal, read and patch on a sealed image, each with the key's bytes.
+// What a C host links: the two block directions, and seal, read, patch and a list of patches on a sealed image, each with the key's bytes.
 #![tactic(auto)]
 
 ghost use Rattle.std.specs.Prelude.{◌≡◌, length};
@@ -6,8 +6,10 @@ ghost use Rattle.spans.specs.Refusals.{leaves};
 ghost use Rattle.twofish.specs.Answers.{answer, refusal_number};
 ghost use Rattle.block.specs.Block.{enciphered, deciphered, block_number};
 ghost use Rattle.sealed.specs.Image.{seal_number, access_number, patch_count, sealed_in, read_from, patched_in};
-ghost use Rattle.host.specs.Host.{schedule_of, keyed, geometry};
+ghost use Rattle.boxful.specs.Boxful.{judged, all_patched, all_counted, list_answer};
+ghost use Rattle.host.specs.Host.{schedule_of, keyed, keyed_list, geometry};
 
+use boxful::{ListAnswer, Patch, Refused};
 use sealed::Geometry;
 use twofish::{Answer, Refusal, Twofish};
 
@@ -102,5 +104,24 @@ pub extern "C" fn hf_patch(
     match Twofish::new(key) {
         Ok(t) => sealed::patch(t, Geometry { pages, banks }, image, bank, offset, bytes).into(),
         Err(refusal) => refused(refusal),
+    }
+}
+
+// The patches of a list made one by one, at most 64, each with its bytes from those that are lent. If one would be refused, none is made and every byte stays.
+#[unsafe(no_mangle)]
+pub extern "C" fn hf_patch_list(
+    key: &[u8],
+    pages: u32,
+    banks: u32,
+    image: &mut [u8],
+    patches: &[Patch],
+    bytes: &[u8],
+) -> ListAnswer
+    ensures outcome { result ≡ list_answer (keyed_list key.now (λ t. judged t (geometry pages banks) image.old patches.now bytes.now)) (all_counted patches.now) }
+    ensures image { image.new ≡ leaves (keyed_list key.now (λ t. judged t (geometry pages banks) image.old patches.now bytes.now)).number (all_patched (schedule_of key.now) (geometry pages banks) bytes.now patches.now image.old) image.old }
+{
+    match Twofish::new(key) {
+        Ok(t) => boxful::patch_all(t, Geometry { pages, banks }, image, patches, bytes).into(),
+        Err(refusal) => Err(Refused { refusal, place: 0 }).into(),
     }
 }

@@ -1,6 +1,7 @@
-// Seals, reads and patches pages of an image of 64 pages in each of four banks, and shows each call's answer with what the image held before and after.
+// Seals, reads and patches pages of an image of 64 pages in each of four banks, one by one and by a list, and shows each call's answer with what the image held before and after.
 #![tactic(auto)]
 
+use boxful::{ListAnswer, Patch};
 use sealed::Geometry;
 use std::io;
 use twofish::{Answer, Twofish};
@@ -28,6 +29,14 @@ fn changed(before: &[u8], after: &[u8]) -> Option<(usize, usize)> {
     Some((first, last))
 }
 
+// Which bytes changed.
+fn show_changed(rt: HostRuntime, before: &[u8], after: &[u8]) -> io::Result<()> {
+    match changed(before, after) {
+        Some((first, last)) => println!(rt; "changed bytes: from {first} to {last}"),
+        None => println!(rt; "changed bytes: none"),
+    }
+}
+
 // A patch in bank 3 with its answer, and which bytes of the image it changed.
 fn patch(
     rt: HostRuntime,
@@ -42,10 +51,25 @@ fn patch(
         "patch of {bytes:?} at {offset:#06x} in bank 3: number {}, count {}",
         answer.number, answer.count
     )?;
-    match changed(&before, image) {
-        Some((first, last)) => println!(rt; "changed bytes: from {first} to {last}"),
-        None => println!(rt; "changed bytes: none"),
-    }
+    show_changed(rt, &before, image)
+}
+
+// A list of patches with its answer, and which bytes of the image it changed.
+fn patch_list(
+    rt: HostRuntime,
+    t: Twofish,
+    image: &mut [u8; LONG],
+    call: &str,
+    patches: &[Patch],
+) -> io::Result<()> {
+    let before = *image;
+    let bytes = *b"edit";
+    let answer: ListAnswer = boxful::patch_all(t, GEOMETRY, image, patches, &bytes).into();
+    println!(rt;
+        "{call}: number {}, count {}, place {}",
+        answer.number, answer.count, answer.place
+    )?;
+    show_changed(rt, &before, image)
 }
 
 // A line for a call: its number and its count.
@@ -103,5 +127,40 @@ fn main(rt: HostRuntime) -> io::Result<()> {
     patch(rt, t, &mut image, 0x0237, &[0xa5])?;
     patch(rt, t, &mut image, 0x02ff, &[0x11])?;
     patch(rt, t, &mut image, 0x02ff, &[0x22, 0x33])?;
-    patch(rt, t, &mut image, 0x0337, &[0xa5])
+    patch(rt, t, &mut image, 0x0337, &[0xa5])?;
+
+    let item = |bank, offset, start, length| Patch {
+        bank,
+        offset,
+        start,
+        length,
+    };
+    let two = [item(3, 0x0240, 0, 4), item(3, 0x0250, 0, 2)];
+    patch_list(rt, t, &mut image, "list of two patches", &two)?;
+    let mut out = [0u8; 20];
+    let read = sealed::read(t, GEOMETRY, &image, 3, 0x0240, &mut out);
+    show(rt, "read of 20 bytes at 0x0240 in bank 3", read.into())?;
+    println!(rt; "{:?}", out)?;
+    let refused = [
+        item(3, 0x0240, 1, 1),
+        item(3, 0x0337, 0, 1),
+        item(4, 0, 3, 2),
+    ];
+    patch_list(
+        rt,
+        t,
+        &mut image,
+        "list whose second patch is refused",
+        &refused,
+    )?;
+    let outside = [item(4, 0, 3, 2)];
+    patch_list(rt, t, &mut image, "list of a patch outside both", &outside)?;
+    patch_list(
+        rt,
+        t,
+        &mut image,
+        "list of 65 patches",
+        &[item(3, 0x0240, 0, 1); 65],
+    )?;
+    patch_list(rt, t, &mut image, "list of none", &[])
 }

@@ -9,7 +9,7 @@ use Rattle.twofish.specs.Answers.{answer}
 use Rattle.block.specs.Block.{deciphered}
 use Rattle.sealed.specs.declared.Geometry.{Geometry}
 use Rattle.sealed.specs.Record.{looked}
-use Rattle.sealed.specs.Image.{reached, offset_reached, within_page, slot, record_at, refusals, access_number}
+use Rattle.sealed.specs.Image.{reached, offset_reached, within_page, slot, record_at, image_refusals, refusals, access_number}
 use Rattle.sealed.proofs.ImageLaws.{both, up_to_256-true, There, slot-room, taken, record_slice, slice-length}
 use Rattle.sealed.proofs.OutcomeLaws.{done_count}
 
@@ -65,7 +65,7 @@ module _ (t : Twofish) (G : Geometry) (image : List ℕ) (bank offset n : ℕ) {
 
   module _ (k : 0 ≡ given (refusals t G (length image) placed fits)) where
     none : NoneHolds first
-    unfolding first refusals
+    unfolding first refusals image_refusals
     none = (given_other 0 (refusals t G (length image) placed fits) [] tt (sym k)).0
 
     -- the look decides
@@ -90,7 +90,7 @@ module _ (t : Twofish) (G : Geometry) (image : List ℕ) (bank offset n : ℕ) {
 pub accessed :
     (t : Twofish) (G : Geometry) (image : List ℕ) (bank offset n : ℕ) → 0 ≡ access_number t G image bank offset n
     → Opens t G (length image) bank offset n × (looked (deciphered t) bank (offset / 256) (record_at G bank (offset / 256) image) ≡ true)
-unfolding access_number refusals given
+unfolding access_number refusals image_refusals given
 accessed t G image bank offset n e =
     let b : Bool = looked (deciphered t) bank (offset / 256) (record_at G bank (offset / 256) image) in
     let first : List Line = refusals t G (length image) (offset_reached G bank offset) (within_page offset n) in

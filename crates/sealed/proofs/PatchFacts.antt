@@ -1,14 +1,15 @@
 -- What an accepted patch leaves: every byte outside its record, and in it every byte before the first block that it writes into. On any image, whatever its
 -- other records are.
-use Rattle.std.proofs.Common.{◌≡◌, ℕ, ◌+◌, ◌-◌, ◌*◌, ◌/◌, ◌%◌, ◌<◌, ◌≤◌, List, ◌++◌, length, take, drop, replicate, true, refl, sym, ap, ◌∙◌, arith, length-drop}
+use Rattle.std.proofs.Common.{◌≡◌, ℕ, ◌+◌, ◌-◌, ◌*◌, ◌/◌, ◌%◌, ◌<◌, ◌≤◌, List, ◌++◌, [], ◌∷◌, not, eqb, length, take, drop, replicate, true, refl, sym, ap, ap₂, subst, ◌∙◌, arith, length-drop}
 use Rattle.std.proofs.lemmas.Bool.{cases_lt}
+use Rattle.std.proofs.lemmas.Bool.Decides.{eqb_tells}
 use Rattle.std.proofs.lemmas.List.{drop-drop, drop-take, take-take}
 use Rattle.std.proofs.Math.Logic.{⊎_elim}
 use Rattle.std.proofs.Math.Nat.{eq-or-lt_of_le}
-use lib.Pointwise.{bytes_decides}
+use lib.Pointwise.{pointwise, bytes_decides}
 use lib.Seq.{length-take-le, take_at, take-add}
 use Rattle.spans.specs.Parts.{splice}
-use Rattle.spans.proofs.BytesLaws.{AllBytes, AllBytes-drop, AllBytes-take}
+use Rattle.spans.proofs.BytesLaws.{AllBytes, AllBytes-append, AllBytes-drop, AllBytes-take}
 use Rattle.spans.proofs.PartsLaws.{splice-length, take_within, take_before, drop-splice, splice_same}
 use Rattle.twofish.specs.declared.Twofish.{Twofish}
 use Rattle.block.specs.Block.{enciphered, deciphered, Schedule}
@@ -17,10 +18,12 @@ use Rattle.block.proofs.Undone.{redone}
 use Rattle.block.proofs.ThereAndBack.{enciphered-length}
 use Rattle.sealed.specs.declared.Geometry.{Geometry}
 use Rattle.sealed.specs.Cbc.{cbc, uncbc}
-use Rattle.sealed.specs.Record.{sealed, looked, page_of}
-use Rattle.sealed.specs.Image.{slot, record_at, sealed_in, patched_in, access_number}
+use Rattle.sealed.specs.Record.{place_block, sealed, looked, page_of}
+use Rattle.spans.specs.Refusals.{◌when◌, given}
+use Rattle.sealed.specs.Image.{offset_reached, within_page, refusals, slot, record_at, sealed_in, patched_in, access_number}
 use Rattle.sealed.proofs.RecordLaws.{sealed-length}
 use Rattle.sealed.proofs.OpenLaws.{page_of-length, sealing}
+use Rattle.sealed.proofs.PageLaws.{sealed-bytes}
 use Rattle.sealed.proofs.PatchLaws.{overlaid, patched}
 use Rattle.sealed.proofs.AccessLaws.{Opens, accessed}
 
@@ -136,6 +139,53 @@ module _ (t : Twofish) (G : Geometry) (image : List ℕ) (bank offset : ℕ) (by
         where
           beyond : slot G bank (offset / 256) < n
           beyond = ⊎_elim (λ e. absurd (other (sym e))) (λ b. b) (eq-or-lt_of_le h)
+
+  -- nor the first block of any record, its own too
+  first_kept : (n : ℕ) → take 16 (drop (272 * n) after) ≡ take 16 (drop (272 * n) image)
+  first_kept n = ⊎_elim (λ h. mine h.1) (λ h. others h.1) (eqb_tells n (slot G bank (offset / 256)))
+    where
+      mine : n ≡ slot G bank (offset / 256) → take 16 (drop (272 * n) after) ≡ take 16 (drop (272 * n) image)
+      mine e =
+          ap (λ (m : ℕ). take 16 (drop (272 * m) after)) e
+          ∙ sym (drop-take at 16 after)
+          ∙ ap (drop at)
+          (sym (take-take (at + 16) first_block after (omega arith))
+          ∙ ap (take (at + 16)) before_first_block
+          ∙ take-take (at + 16) first_block image (omega arith))
+          ∙ drop-take at 16 image
+          ∙ ap (λ (m : ℕ). take 16 (drop (272 * m) image)) (sym e)
+
+      others : (n ≡ slot G bank (offset / 256) → ⊥) → take 16 (drop (272 * n) after) ≡ take 16 (drop (272 * n) image)
+      others e =
+          sym (take-take 16 272 (drop (272 * n) after) (omega arith))
+          ∙ ap (take 16) (other_record n e)
+          ∙ take-take 16 272 (drop (272 * n) image) (omega arith)
+
+  after-length : length after ≡ length image
+  after-length = ap length written ∙ splice-length at v image fits
+
+  -- so every call is refused as before, or not at all
+  pub number_kept : (b o n : ℕ) → access_number t G after b o n ≡ access_number t G image b o n
+  unfolding access_number record_at looked
+  number_kept b o n =
+      let j : ℕ = slot G b (o / 256) in
+      let block : take 16 (take 272 (drop (272 * j) after)) ≡ take 16 (take 272 (drop (272 * j) image)) =
+      take-take 16 272 (drop (272 * j) after) (omega arith) ∙ first_kept j ∙ sym (take-take 16 272 (drop (272 * j) image) (omega arith)) in
+      ap₂
+      (λ (m : ℕ) (l : List ℕ).
+      given
+      (refusals t G m (offset_reached G b o) (within_page o n)
+      ++ 8 when not (pointwise eqb (D l) (place_block b (o / 256))) ∷ []))
+      after-length block
+
+  -- bytes stay bytes
+  pub bytes_after : AllBytes after
+  unfolding splice
+  bytes_after =
+      let whole = splice-length q bytes (page_of D r) (omega (arith, taken.inside, page-long)) ∙ page-long in
+      subst AllBytes (sym written)
+      (AllBytes-append (take at image) _ (AllBytes-take at image byte)
+      (AllBytes-append v _ (sealed-bytes t bank (offset / 256) (splice q bytes (page_of D r)) (omega (arith, whole))) (AllBytes-drop (at + length v) image byte)))
 
   -- bytes that are there already change nothing
   pub there_already : take (length bytes) (drop (offset % 256) (page_of (deciphered t) (record_at G bank (offset / 256) image))) ≡ bytes → after ≡ image

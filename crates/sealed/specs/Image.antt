@@ -39,11 +39,17 @@ within_page offset n = up_to_256 n && leb (offset % 256 + n) 256
 unfoldable pub record_at : Geometry → ℕ → ℕ → List ℕ → List ℕ
 record_at G bank page image = take 272 (drop (272 * slot G bank page) image)
 
--- the refusals of a call on an image in document 01's order, up to its look at a record: by whether its place is there, and whether its
--- length fits
+-- the refusals of a schedule, a geometry and an image's length, in document 01's order
+unfoldable pub image_refusals : Twofish → Geometry → ℕ → List Line
+image_refusals t G long = 2 when ltb 2 t.start ∷ 4 when not (in_range G) ∷ 5 when not (eqb long (image_length G)) ∷ []
+
+-- the number of theirs
+unfoldable pub image_number : Twofish → Geometry → ℕ → ℕ
+image_number t G long = given (image_refusals t G long)
+
+-- the refusals of a call on an image, up to its look at a record: after those, by whether its place is there, and whether its length fits
 unfoldable pub refusals : Twofish → Geometry → ℕ → Bool → Bool → List Line
-refusals t G long placed fits =
-    2 when ltb 2 t.start ∷ 4 when not (in_range G) ∷ 5 when not (eqb long (image_length G)) ∷ 6 when not placed ∷ 7 when not fits ∷ []
+refusals t G long placed fits = image_refusals t G long ++ 6 when not placed ∷ 7 when not fits ∷ []
 
 -- the number of seal's refusal, which does not look at the record
 unfoldable pub seal_number : Twofish → Geometry → ℕ → ℕ → ℕ → ℕ → ℕ

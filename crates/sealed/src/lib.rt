@@ -5,11 +5,11 @@ ghost use Rattle.std.specs.Prelude.{◌≡◌, ◌++◌, ◌+◌, ◌*◌, ◌/�
 ghost use Rattle.spans.specs.Bytes.{xor_bytes};
 ghost use Rattle.spans.specs.Parts.{splice};
 ghost use Rattle.spans.specs.Refusals.{given, leaves};
-ghost use Rattle.twofish.specs.Answers.{answer, outcome_number, counted};
+ghost use Rattle.twofish.specs.Answers.{answer, outcome_number, answered, counted};
 ghost use Rattle.block.specs.Block.{enciphered, deciphered, Schedule};
 ghost use Rattle.sealed.specs.Cbc.{cbc, uncbc};
 ghost use Rattle.sealed.specs.Record.{place_block, filled, sealed, looked, look_answer, page_of};
-ghost use Rattle.sealed.specs.Image.{in_range, reached, offset_reached, slot, up_to_256, within_page, refusals, seal_number, sealed_in, access_number, read_from, patched_in, patch_count};
+ghost use Rattle.sealed.specs.Image.{in_range, reached, offset_reached, slot, up_to_256, within_page, image_number, refusals, seal_number, sealed_in, access_number, read_from, patched_in, patch_count};
 
 use twofish::{Refusal, Twofish};
 
@@ -68,15 +68,9 @@ impl Geometry {
     }
 }
 
-// Whether a call on an image is taken up to its look at a record, or else the first refusal in order.
-fn judged(
-    t: Twofish,
-    geometry: Geometry,
-    long: usize,
-    placed: bool,
-    fits: bool,
-) -> Result<(), Refusal>
-    ensures { outcome_number result ≡ given (refusals t geometry long placed fits) }
+// Whether an image is taken, or else the first refusal of its schedule, geometry and length in order.
+pub fn judge(t: Twofish, geometry: Geometry, long: usize) -> Result<(), Refusal>
+    ensures { answered result ≡ answer (image_number t geometry long) 0 }
 {
     if t.start > 2 {
         return Err(Refusal::Start);
@@ -87,6 +81,20 @@ fn judged(
     if long != Twofish::RECORD * (geometry.pages as usize * geometry.banks as usize) {
         return Err(Refusal::ImageLength);
     }
+    Ok(())
+}
+
+// Whether a call on an image is taken up to its look at a record, or else the first refusal in order.
+fn judged(
+    t: Twofish,
+    geometry: Geometry,
+    long: usize,
+    placed: bool,
+    fits: bool,
+) -> Result<(), Refusal>
+    ensures { outcome_number result ≡ given (refusals t geometry long placed fits) }
+{
+    judge(t, geometry, long)?;
     if !placed {
         return Err(Refusal::Place);
     }
@@ -254,7 +262,7 @@ pub fn look(t: Twofish, bank: u32, page: u32, bytes: &[u8]) -> bool
 }
 
 // Where the record that a call looks at begins: the page at a bank's offset, from which the call reads or writes n bytes; or the first refusal in order.
-fn found(
+pub fn find(
     t: Twofish,
     geometry: Geometry,
     image: &[u8],
@@ -287,7 +295,7 @@ pub fn read(
     ensures outcome { counted result ≡ answer (access_number t geometry image.now bank offset (length out.old)) 0 }
     ensures out { out.new ≡ leaves (access_number t geometry image.now bank offset (length out.old)) (read_from (deciphered t) geometry bank offset (length out.old) image.now) out.old }
 {
-    let at = found(t, geometry, image, bank, offset, out.len())?;
+    let at = find(t, geometry, image, bank, offset, out.len())?;
     let blocks = &image[at..at + Twofish::RECORD];
     let cipher = Accepted { t };
     cipher.open(blocks, offset as usize % 256, out);
@@ -307,7 +315,7 @@ pub fn patch(
     ensures outcome { counted result ≡ answer (access_number t geometry image.old bank offset (length bytes.now)) (patch_count offset) }
     ensures image { image.new ≡ leaves (access_number t geometry image.old bank offset (length bytes.now)) (patched_in (enciphered t) (deciphered t) geometry bank offset bytes.now image.old) image.old }
 {
-    let at = found(t, geometry, image, bank, offset, bytes.len())?;
+    let at = find(t, geometry, image, bank, offset, bytes.len())?;
     let blocks = &mut image[at..at + Twofish::RECORD];
     let cipher = Accepted { t };
     cipher.patch_record(offset as usize % 256, bytes, blocks);

@@ -7,7 +7,7 @@ use Rattle.twofish.specs.Schedule.{SetUp, handed_back}
 use Rattle.twofish.specs.declared.Answer.{Answer}
 use Rattle.twofish.specs.declared.Twofish.{Twofish}
 use Rattle.twofish.specs.declared.Refusal.{Refusal}
-use Rattle.twofish.specs.declared.Refusal.TheVariants.{KeyLength, Start, BlockLength, Geometry, ImageLength, Place, Length, Record}
+use Rattle.twofish.specs.declared.Refusal.TheVariants.{KeyLength, Start, BlockLength, Geometry, ImageLength, Place, Length, Record, Outside, TooMany}
 
 -- the refusal with a number
 numbered : ℕ → Refusal
@@ -19,7 +19,9 @@ numbered (suc (suc (suc (suc zero)))) = Geometry
 numbered (suc (suc (suc (suc (suc zero))))) = ImageLength
 numbered (suc (suc (suc (suc (suc (suc zero)))))) = Place
 numbered (suc (suc (suc (suc (suc (suc (suc zero))))))) = Length
-numbered (suc (suc (suc (suc (suc (suc (suc (suc n)))))))) = Record
+numbered (suc (suc (suc (suc (suc (suc (suc (suc zero)))))))) = Record
+numbered (suc (suc (suc (suc (suc (suc (suc (suc (suc zero))))))))) = Outside
+numbered (suc (suc (suc (suc (suc (suc (suc (suc (suc (suc n)))))))))) = TooMany
 
 numbered-number : (e : Refusal) → numbered (refusal_number e) ≡ e
 unfolding numbered
@@ -31,9 +33,11 @@ numbered-number ImageLength = refl
 numbered-number Place = refl
 numbered-number Length = refl
 numbered-number Record = refl
+numbered-number Outside = refl
+numbered-number TooMany = refl
 
 -- no two refusals have one number, and none has 0
-refusal_number-injective : (d e : Refusal) → refusal_number d ≡ refusal_number e → d ≡ e
+pub refusal_number-injective : (d e : Refusal) → refusal_number d ≡ refusal_number e → d ≡ e
 refusal_number-injective d e h = sym (numbered-number d) ∙ ap numbered h ∙ numbered-number e
 
 pub never_done : (e : Refusal) → 0 ≡ refusal_number e → ⊥
@@ -45,6 +49,8 @@ never_done ImageLength h = omega (arith, h)
 never_done Place h = omega (arith, h)
 never_done Length h = omega (arith, h)
 never_done Record h = omega (arith, h)
+never_done Outside h = omega (arith, h)
+never_done TooMany h = omega (arith, h)
 
 -- a refusal counts 0
 pub refusal_counts : (n c : ℕ) → (n ≡ 0 → ⊥) → answer n c ≡ record { number = n; count = 0 }

@@ -2,7 +2,7 @@
 use Rattle.std.specs.Prelude.{ℕ, eqb, Result, Ok, Err, cond}
 use Rattle.twofish.specs.declared.Answer.{Answer}
 use Rattle.twofish.specs.declared.Refusal.{Refusal}
-use Rattle.twofish.specs.declared.Refusal.TheVariants.{KeyLength, Start, BlockLength, Geometry, ImageLength, Place, Length, Record}
+use Rattle.twofish.specs.declared.Refusal.TheVariants.{KeyLength, Start, BlockLength, Geometry, ImageLength, Place, Length, Record, Outside, TooMany}
 
 -- number n with count c; a refusal, n not 0, has count 0
 unfoldable pub answer : ℕ → ℕ → Answer
@@ -18,6 +18,8 @@ refusal_number ImageLength = 5
 refusal_number Place = 6
 refusal_number Length = 7
 refusal_number Record = 8
+refusal_number Outside = 9
+refusal_number TooMany = 10
 
 -- the number of an outcome, which is 0 where the call is done
 abbrev pub outcome_number : {A : Type 0} → Result A Refusal → ℕ

@@ -31,6 +31,10 @@ pub enum Refusal {
     Length = 7,
     // The record's first block does not decipher to the place block.
     Record = 8,
+    // A patch of a list begins or ends outside the bytes that are lent.
+    Outside = 9,
+    // A list has more than 64 patches.
+    TooMany = 10,
 }
 
 impl From<Refusal> for u32 {

@@ -23,6 +23,7 @@ fn input(key: &[u8]) -> Vec<u8> {
         image: vec![0; RECORD * RECORDS],
         bank: 0,
         at: 0,
+        items: Vec::new(),
         bytes: vec![0; PAGE],
     };
     for slot in (0..RECORDS as u32).filter(|slot| slot % 10 != 0) {

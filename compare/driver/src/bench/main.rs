@@ -4,7 +4,7 @@ mod lister;
 mod same;
 mod table;
 
-use driver::call::{Call, Entry};
+use driver::call::{Call, Entry, Item};
 use driver::library;
 use driver::oracle::{PAGE, RECORD};
 use driver::random::Random;
@@ -56,6 +56,10 @@ fn turn(call: &mut Call, i: u32) {
     let page = i * 7 % call.pages;
     call.bank = i % call.banks;
     call.at = if call.entry == Entry::Seal { page } else { 256 * page + call.at % 256 };
+    for (place, item) in (0..).zip(&mut call.items) {
+        item.bank = call.bank;
+        item.offset = 256 * ((page + place) % call.pages) + item.offset % 256;
+    }
     if call.entry != Entry::Read {
         call.bytes[0] = i as u8;
     }
@@ -142,7 +146,13 @@ impl Calls {
     }
 
     fn on_image(&self, entry: Entry, at: u32, length: usize) -> Call {
-        Call { entry, key: self.key.clone(), pages: 64, banks: 4, image: self.image.clone(), bank: 0, at, bytes: vec![0; length] }
+        Call { pages: 64, banks: 4, image: self.image.clone(), at, ..Call::on_block(entry, self.key.clone(), vec![0; length]) }
+    }
+
+    /// A list of so many patches of one byte, each in another page.
+    fn on_pages(&self, at: u32, many: u32) -> Call {
+        let items = (0..many).map(|place| Item { bank: 0, offset: at, start: place, length: 1 }).collect();
+        Call { items, ..self.on_image(Entry::List, 0, many as usize) }
     }
 }
 
@@ -230,6 +240,7 @@ fn main() {
         ("patch of 1 byte, the page's first", 33, calls.on_image(Entry::Patch, 0, 1)),
         ("patch of 1 byte, the page's middle", 17, calls.on_image(Entry::Patch, 128, 1)),
         ("patch of 1 byte, the page's last", 3, calls.on_image(Entry::Patch, 255, 1)),
+        ("list of 16 patches of 1 byte in 16 pages", 272, calls.on_pages(128, 16)),
     ] {
         rows.push(on_image(what, blocks, &call, &calls, &others));
     }

@@ -1,7 +1,7 @@
 //! The work of the library's entries, made by any other Twofish: a key is set with each call, and only the blocks that are needed are turned.
 
 use cipher::KeyInit;
-use driver::call::{Call, Entry};
+use driver::call::{Call, Entry, Item};
 use driver::oracle::{self, PAGE, RECORD};
 use std::ffi::{CStr, c_char};
 use twofish::Twofish;
@@ -92,6 +92,9 @@ pub fn make(cipher: &mut impl Cipher, call: &mut Call) -> bool {
     if !cipher.set(&call.key) {
         return false;
     }
+    if call.entry == Entry::List {
+        return on_records(cipher, call);
+    }
     let Ok(block) = call.bytes.as_mut_slice().try_into() else {
         return on_record(cipher, call);
     };
@@ -137,22 +140,45 @@ fn on_record(cipher: &impl Cipher, call: &mut Call) -> bool {
         chain(cipher, blocks, plain.as_chunks().0, 1);
         return true;
     }
-    let reading = call.entry == Entry::Read;
-    let end = if reading { (first + call.bytes.len()).div_ceil(16) } else { 16 };
+    if call.entry == Entry::Read {
+        let end = first + call.bytes.len();
+        call.bytes.copy_from_slice(&opened(cipher, blocks, first, end)[first..end]);
+    } else {
+        patch(cipher, blocks, first, &call.bytes);
+    }
+    true
+}
+
+/// The same for a list: every record is looked at once, and then the patches are made.
+fn on_records(cipher: &impl Cipher, call: &mut Call) -> bool {
+    let start = |item: &Item| RECORD * (item.bank * call.pages + item.offset / 256) as usize;
+    let its_own = |item: &Item| looked(cipher, item.bank as u8, (item.offset / 256) as u8, &call.image[start(item)..][..RECORD]);
+    if !call.items.iter().all(its_own) {
+        return false;
+    }
+    for item in &call.items {
+        let (blocks, _) = call.image[start(item)..][..RECORD].as_chunks_mut();
+        patch(cipher, blocks, item.offset as usize % PAGE, &call.bytes[item.start as usize..][..item.length as usize]);
+    }
+    true
+}
+
+/// The plain bytes of the blocks that hold those of the page from the first up to the end, at their places in the page.
+fn opened(cipher: &impl Cipher, blocks: &[[u8; 16]], first: usize, end: usize) -> [u8; PAGE] {
     let mut plain = [0; PAGE];
-    for (i, block) in plain.as_chunks_mut().0.iter_mut().enumerate().take(end).skip(first / 16) {
+    for (i, block) in plain.as_chunks_mut().0.iter_mut().enumerate().take(end.div_ceil(16)).skip(first / 16) {
         *block = blocks[i + 1];
         cipher.decipher(block);
         xor(block, &blocks[i]);
     }
-    let part = &mut plain[first..first + call.bytes.len()];
-    if reading {
-        call.bytes.copy_from_slice(part);
-    } else {
-        part.copy_from_slice(&call.bytes);
-        chain(cipher, blocks, plain.as_chunks().0, first / 16 + 1);
-    }
-    true
+    plain
+}
+
+/// Bytes of a record's page replaced from the first on.
+fn patch(cipher: &impl Cipher, blocks: &mut [[u8; 16]], first: usize, bytes: &[u8]) {
+    let mut plain = opened(cipher, blocks, first, PAGE);
+    plain[first..first + bytes.len()].copy_from_slice(bytes);
+    chain(cipher, blocks, plain.as_chunks().0, first / 16 + 1);
 }
 
 /// Blocks of a record from one on, enciphered in CBC over the page's plain blocks.

@@ -65,7 +65,8 @@ fn text(names: &[String], rows: &[Row]) -> String {
 const NOTES: &str = "
 The library's entries take the key with each call, and it exports nothing else. So every row without a star is a key set-up and the work, for
 the crate and the others too: they do a call's work by a CBC that turns only the blocks that are needed. *Blocks* says how many that are:
-a read of one byte looks at the record's first block and deciphers one more; a patch of the page's last byte does that and enciphers one.
+a read of one byte looks at the record's first block and deciphers one more; a patch of the page's last byte does that and enciphers one. The
+list's bytes are their pages' middle; the library looks at each record twice, to judge the list and again to patch it.
 *Measured* is the library's time, less its set-up, over its time for a block enciphered.
 
 (*) A block under a key that was set before. The library's times are differences: 16 blocks lie between a seal and the call on one block,
@@ -80,7 +81,7 @@ const COLOURS: [&str; 7] = ["#1b6ca8", "#c0392b", "#7f8c8d", "#27ae60", "#8e44ad
 
 /// Bars in proportion to the crate's time, those that are longer than the drawing cut off.
 fn drawing(names: &[String], rows: &[Row]) -> String {
-    const LEFT: usize = 300;
+    const LEFT: usize = 320;
     const ONE: f64 = 400.0;
     const MOST: f64 = 500.0;
     let lines: usize = rows.iter().map(|row| row.times.iter().flatten().count()).sum();

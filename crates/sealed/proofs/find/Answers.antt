@@ -1,4 +1,4 @@
--- `sealed::found` meets its contract: the first refusal in order, or where the record begins.
+-- `sealed::find` meets its contract: the first refusal in order, or where the record begins.
 use Rattle.std.proofs.Common.{ℕ, length, ◌*◌, ◌/◌, sym, ap, ap₂, arith}
 use Rattle.std.proofs.lemmas.Result.{err_from_is_err_and}
 use Rattle.twofish.specs.Answers.{answer}
@@ -7,8 +7,8 @@ use Rattle.sealed.specs.Image.{slot}
 use Rattle.sealed.proofs.ImageLaws.{slice-length}
 use Rattle.sealed.proofs.AccessLaws.{Opens, early, of_another, of_place, opens}
 use Rattle.sealed.proofs.OutcomeLaws.{refused_answer}
-use Rattle.sealed.proofs.found.Goals as goal
-use Rattle.sealed.proofs.found.Goals.{In_ok-judged}
+use Rattle.sealed.proofs.find.Goals as goal
+use Rattle.sealed.proofs.find.Goals.{In_ok-judged}
 
 pub returns-in_err-judged : goal.returns-in_err-judged
 returns-in_err-judged c =

@@ -1,0 +1,4 @@
+pub mod ListLaws
+pub mod PatchedLaws
+pub mod Unique
+pub mod Series
