@@ -4,7 +4,7 @@
 ghost use Rattle.std.specs.Prelude.{◌≡◌, ◌+◌, [], ◌∷◌};
 ghost use Rattle.words.specs.Word.{word_of};
 ghost use Rattle.field.specs.Field.{mul};
-ghost use Rattle.field.specs.Matrix.{mds_column, mds_times, rs_times, row_times, rs_poly};
+ghost use Rattle.field.specs.Matrix.{mds_column, mds_times, rs_times, row_times, mds_poly, rs_poly};
 
 // x^8 + x^6 + x^5 + x^3 + 1 without its top digit.
 pub const MDS_POLY: u8 = 0x69;
@@ -46,12 +46,26 @@ pub fn gf_mult(mut a: u8, mut b: u8, p: u8) -> u8
     result
 }
 
+// The products of x by 5b and by ef modulo v, by seven doublings: 5b is 01 + 02 + 08 + 10 + 40, and ef all digits but 10.
+fn by_5b_and_ef(x: u8) -> [u8; 2]
+    ensures { result ≡ mul mds_poly x 0x5b ∷ mul mds_poly x 0xef ∷ [] }
+{
+    let x2 = double(x, MDS_POLY);
+    let x4 = double(x2, MDS_POLY);
+    let x8 = double(x4, MDS_POLY);
+    let x10 = double(x8, MDS_POLY);
+    let x20 = double(x10, MDS_POLY);
+    let x40 = double(x20, MDS_POLY);
+    let x80 = double(x40, MDS_POLY);
+    let both = x ^ x2 ^ x8 ^ x40;
+    [both ^ x10, both ^ x4 ^ x20 ^ x80]
+}
+
 // A column of MDS times x, as a word; 0 past the fourth column.
 pub fn mds_column_mult(x: u8, column: usize) -> u32
     ensures { result ≡ mds_column column x }
 {
-    let x5b = gf_mult(x, 0x5b, MDS_POLY);
-    let xef = gf_mult(x, 0xef, MDS_POLY);
+    let [x5b, xef] = by_5b_and_ef(x);
     match column {
         0 => words::from_le_bytes([x, x5b, xef, xef]),
         1 => words::from_le_bytes([xef, xef, x5b, x]),
