@@ -5,12 +5,13 @@ use Rattle.std.proofs.lemmas.List.{at_drop_more, drop_all}
 use borrow.Author.Tests.{eqb-true, ltb-false, ne_eqb, lt-ltb, le-ltb}
 use lib.Seq.{length-take-le}
 use Rattle.spans.specs.Refusals.{◌when◌, given}
-use Rattle.spans.proofs.RefusalLaws.{given_after, given_kept, given_none, given_other, given_zero}
+use Rattle.spans.proofs.RefusalLaws.{given_none, given_other}
 use Rattle.twofish.specs.declared.Twofish.{Twofish}
 use Rattle.sealed.specs.declared.Geometry.{Geometry}
 use Rattle.sealed.specs.Image.{image_refusals, image_number, access_number}
 use Rattle.twofish.specs.Answers.{refusal_number}
 use Rattle.twofish.proofs.AnswerLaws.{never_done}
+use Rattle.sealed.proofs.ImageLaws.{image_refused, image_taken}
 use Rattle.boxful.specs.declared.Patch.{Patch}
 use Rattle.boxful.specs.declared.Refused.{Refused}
 use Rattle.boxful.specs.Boxful.{Judged, written, outside, item_number, whole_number, first_refused, judged, list_answer}
@@ -61,21 +62,17 @@ module _ (f : Patch → ℕ) where
 
 module _ (t : Twofish) (G : Geometry) (long n : ℕ) where
   pub whole_refused : (e : ℕ) → (e ≡ 0 → ⊥) → e ≡ image_number t G long → whole_number t G long n ≡ e
-  unfolding image_number whole_number
-  whole_refused e some k = given_kept (image_refusals t G long) _ (λ z. some (k ∙ z)) ∙ sym k
+  unfolding whole_number
+  whole_refused e some k = sym (image_refused t G long (10 when ltb 64 n ∷ []) e some k)
 
   module _ (k : 0 ≡ image_number t G long) where
-    after : whole_number t G long n ≡ given (10 when ltb 64 n ∷ [])
-    unfolding image_number whole_number image_refusals
-    after = given_after (image_refusals t G long) _ ((given_zero (image_refusals t G long) tt).0 (sym k))
-
     pub too_many : 64 < n → whole_number t G long n ≡ 10
-    unfolding given
-    too_many h = after ∙ simp (lt-ltb _ _ h)
+    unfolding whole_number given
+    too_many h = image_taken t G long (10 when ltb 64 n ∷ []) k ∙ simp (lt-ltb _ _ h)
 
     pub few_enough : n ≤ 64 → whole_number t G long n ≡ 0
-    unfolding given
-    few_enough h = after ∙ simp (le-ltb _ _ h)
+    unfolding whole_number given
+    few_enough h = image_taken t G long (10 when ltb 64 n ∷ []) k ∙ simp (le-ltb _ _ h)
 
   pub few_taken : whole_number t G long n ≡ 0 → n ≤ 64
   unfolding whole_number image_refusals

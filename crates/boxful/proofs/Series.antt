@@ -1,5 +1,7 @@
--- A list that is taken is the series of its patches: each is done, in order, and its counts are theirs; so what is proved of any series holds of lists.
-use Rattle.std.proofs.Common.{◌≡◌, ℕ, zero, suc, ◌+◌, ◌<◌, List, [], ◌∷◌, eqb, cond, length, drop, get_or, All, refl, subst, sym, ap, ap₂, ◌∙◌, arith}
+-- A list that is taken is the series of its patches: each is done, in order, and its counts are theirs; so what is proved of any series holds of
+-- lists.
+use Rattle.std.proofs.Common.{◌≡◌, ℕ, suc, ◌+◌, ◌<◌, List, [], ◌∷◌, eqb, cond, length, get_or, map, All, refl, subst, sym, ap, ap₂, ◌∙◌, arith}
+use Rattle.std.proofs.lemmas.List.Elements.{All-nil, All-cons, All-map}
 use Rattle.spans.proofs.BytesLaws.{AllBytes, AllBytes-take, AllBytes-drop}
 use Rattle.twofish.specs.declared.Twofish.{Twofish}
 use Rattle.twofish.specs.declared.Answer.{Answer}
@@ -21,24 +23,17 @@ use Rattle.boxful.proofs.PatchedLaws.{patched, taken_number, still_said}
 unfoldable pub as_call : List ℕ → Patch → Call
 as_call lent p = calls.Patch p.bank p.offset (written p lent)
 
-unfoldable pub as_calls : List ℕ → List Patch → List Call
-as_calls lent [] = []
-as_calls lent (p ∷ ps) = as_call lent p ∷ as_calls lent ps
+abbrev pub as_calls : List ℕ → List Patch → List Call
+as_calls lent ps = map (as_call lent) ps
 
 -- its calls write bytes
 calls_write : (lent : List ℕ) → AllBytes lent → (ps : List Patch) → All WritesBytes (as_calls lent ps)
-unfolding as_calls as_call written WritesBytes
-calls_write lent b [] j d h = absurd (omega (arith, h))
-calls_write lent b (p ∷ ps) zero d h = AllBytes-take p.length (drop p.start lent) (AllBytes-drop p.start lent b)
-calls_write lent b (p ∷ ps) (suc j) d h = calls_write lent b ps j d (omega (arith, h))
+unfolding as_call written WritesBytes
+calls_write lent b ps = All-map WritesBytes (as_call lent) ps (λ k p l. AllBytes-take _ _ (AllBytes-drop _ lent b))
 
 -- a call that is done
 abbrev Done : Outcome → Type 0
 Done o = o.answer.number ≡ 0
-
-both_all : {A : Type 0} (P : A → Type 0) (x : A) (xs : List A) → P x → All P xs → All P (x ∷ xs)
-both_all P x xs p h zero d l = p
-both_all P x xs p h (suc j) d l = h j d (omega (arith, l))
 
 -- the sum of the counts of outcomes
 unfoldable pub counts : List Outcome → ℕ
@@ -73,7 +68,7 @@ module _ (t : Twofish) (G : Geometry) (s : Schedule t) (lent : List ℕ) where
 
   -- the image after it is that at the end of the series
   pub list_end : (ps : List Patch) (image : List ℕ) → AllBytes image → AllTaken image ps → all_patched t G lent ps image ≡ at_end (on_image t G) (as_calls lent ps) image
-  unfolding all_patched at_end as_calls
+  unfolding all_patched at_end
   list_end [] image b taken = refl
   list_end (p ∷ ps) image b taken =
       list_end ps (patched t G lent p image) (rest_bytes p ps image b taken) (rest_taken p ps image b taken)
@@ -84,19 +79,19 @@ module _ (t : Twofish) (G : Geometry) (s : Schedule t) (lent : List ℕ) where
       (ps : List Patch) (image : List ℕ) → AllBytes image → AllTaken image ps
       → All Done (outcomes (on_image t G) (as_calls lent ps) image)
       × (counts (outcomes (on_image t G) (as_calls lent ps) image) ≡ all_counted ps)
-  unfolding outcomes as_calls counts all_counted
-  list_done [] image b taken = (λ j o h. absurd (omega (arith, h)), refl)
+  unfolding outcomes counts all_counted
+  list_done [] image b taken = (All-nil Done, refl)
   list_done (p ∷ ps) image b taken =
       let e : item_number t G image lent p ≡ 0 = first p ps image b taken in
       let k = list_done ps (patched t G lent p image) (rest_bytes p ps image b taken) (rest_taken p ps image b taken) in
       let same = ap (outcomes (on_image t G) (as_calls lent ps)) (sym (call_after image p e)) in
       let answered = call_answer image p e in (
-        both_all Done _ _ (ap (λ (a : Answer). a.number) answered) (subst (All Done) same k.0),
+        All-cons Done _ _ (ap (λ (a : Answer). a.number) answered) (subst (All Done) same k.0),
         ap₂ ◌+◌ (ap (λ (a : Answer). a.count) answered) (ap counts (sym same) ∙ k.1),
       )
 
--- so demand 3 holds of a list as of its patches: on an image whose every record is readable, a list that is taken leaves the sealing afresh of the image's
--- pages with the patches applied in order
+-- so demand 3 holds of a list as of its patches: on an image whose every record is readable, a list that is taken leaves the sealing afresh of the
+-- image's pages with the patches applied in order
 pub list_on_readable :
     (t : Twofish) (G : Geometry) (s : Schedule t) (image : List ℕ) → Readable t G image → (lent : List ℕ) → AllBytes lent → (ps : List Patch)
     → (judged t G image ps lent).number ≡ 0

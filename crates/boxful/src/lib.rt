@@ -120,7 +120,8 @@ fn make(t: Twofish, geometry: Geometry, image: &mut [u8], patch: Patch, bytes: &
     sealed::patch(t, geometry, image, patch.bank, patch.offset, part).unwrap_or(0)
 }
 
-// The patches of a list made one by one, at most 64, each with its bytes from those that are lent. If one would be refused, none is made and every byte stays.
+// The patches of a list made one by one, at most 64, each with its bytes from those that are lent. If one would be refused, none is made and every
+// byte stays.
 pub fn patch_all(
     t: Twofish,
     geometry: Geometry,

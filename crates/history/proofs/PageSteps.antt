@@ -44,6 +44,15 @@ module _ (t : Twofish) (G : Geometry) where
       from s [] h = tt
       from s (page ∷ pages) h = (h.0, from (suc s) pages h.1)
 
+  -- and the reverse
+  pub pages-slots : (pages : List (List ℕ)) → Slots t G (as_slots pages) → Pages G pages
+  unfolding Right
+  pages-slots pages h = record { count = sym (length-map pages (λ page. Page page)) ∙ h.count; each = from 0 pages h.each }
+    where
+      from : (s : ℕ) (pages : List (List ℕ)) → Each (Right t G) s (as_slots pages) → Each (λ n page. Bytes 256 page) s pages
+      from s [] h = tt
+      from s (page ∷ pages) h = (h.0, from (suc s) pages h.1)
+
   module _ (pages : List (List ℕ)) (h : Pages G pages) where
     module _ (bank page : ℕ) (there : There G bank page) where
       abbrev at : ℕ

@@ -1,27 +1,29 @@
--- An image whose every record is of its place is the sealing afresh of its pages; and the sealing afresh of any pages is such an image, and of those alone.
-use Rattle.std.proofs.Common.{◌≡◌, ℕ, zero, suc, ◌+◌, ◌*◌, ◌/◌, ◌%◌, ◌<◌, ◌≤◌, true, List, [], ◌∷◌, ◌++◌, length, take, drop, refl, sym, ap, ap₂, subst, ◌∙◌, arith, lit<, length-drop, take-append-drop}
-use Rattle.std.proofs.lemmas.List.{nil_from_length, drop-drop}
+-- An image whose every record is of its place is the sealing afresh of its pages; and the sealing afresh of any pages is such an image, and of those
+-- alone.
+use Rattle.std.proofs.Common.{◌≡◌, ℕ, Bool, cond, zero, suc, ◌+◌, ◌*◌, ◌/◌, ◌%◌, ◌<◌, ◌≤◌, true, List, [], ◌∷◌, length, take, drop, refl, sym, ap, ap₂, subst, ◌∙◌, arith, lit<}
+use Rattle.std.proofs.lemmas.List.{drop-drop}
 use borrow.Author.Tests.{not-false}
 use lib.Seq.{take_at, drop_at}
 use Rattle.std.proofs.Math.Nat.{mod-lt, div-add-mod, div-lt_iff_lt-mul, mul_comm}
 use Rattle.spans.specs.Bytes.{Bytes}
-use Rattle.spans.proofs.BytesLaws.{AllBytes, AllBytes-append, AllBytes-drop, Bytes-take}
+use Rattle.spans.proofs.BytesLaws.{AllBytes, AllBytes-append}
 use Rattle.twofish.specs.declared.Twofish.{Twofish}
 use Rattle.block.specs.Block.{enciphered, deciphered, Schedule}
 use Rattle.sealed.specs.declared.Geometry.{Geometry}
 use Rattle.sealed.specs.Record.{sealed, looked, page_of}
-use Rattle.sealed.specs.Image.{in_range, slot, image_length, record_at}
+use Rattle.sealed.specs.Image.{in_range, slot, record_at}
 use Rattle.block.proofs.ThereAndBack.{enciphered-length}
 use Rattle.sealed.proofs.ImageLaws.{There, bank_byte, page_byte}
 use Rattle.sealed.proofs.RecordLaws.{sealed-length}
 use Rattle.sealed.proofs.OpenLaws.{filled-page}
-use Rattle.sealed.proofs.PageLaws.{page_of-bytes, page_of-sealed, sealed-page_of, sealed-bytes}
+use Rattle.sealed.proofs.PageLaws.{page_of-sealed, sealed-bytes}
 use Rattle.history.specs.Order.{in_order, Each}
-use Rattle.history.specs.Slots.{is_raw}
+use Rattle.history.specs.Slots.{Slot, Page, Raw, is_raw, image_of, Slots, seen, view, slots_of}
 use Rattle.history.specs.Pages.{sealing, Pages, Readable, first_pages, pages_of}
 use Rattle.history.proofs.OrderLaws.{Each-map}
 use Rattle.history.proofs.SlotLaws.{image_of-length, looked-there}
-use Rattle.history.proofs.PageSteps.{as_slots, image_of-pages, slots-pages, slot_of-pages}
+use Rattle.history.proofs.PageSteps.{as_slots, image_of-pages, slots-pages, pages-slots, slot_of-pages}
+use Rattle.history.proofs.ViewLaws.{image_of-slots_of}
 
 -- a slot is a bank and a page of it
 record Split (n p q : ℕ) : Type 0 where
@@ -46,39 +48,27 @@ in_order-bytes f s [] h = λ i. lit< tt
 in_order-bytes f s (x ∷ xs) h = AllBytes-append (f s x) (in_order f (suc s) xs) h.0 (in_order-bytes f (suc s) xs h.1)
 
 module _ (t : Twofish) (G : Geometry) (s : Schedule t) where
-  -- what holds of the first n records of an image, from slot m on
-  record Opened (n m : ℕ) (image : List ℕ) : Type 0 where
-    same : in_order (λ s page. sealed (enciphered t) (s / G.pages) (s % G.pages) page) m (first_pages t n image) ≡ image
-    each : Each (λ s page. Bytes 256 page) m (first_pages t n image)
-    count : length (first_pages t n image) ≡ n
-
   -- record j of an image, in slot k
   abbrev Own : ℕ → ℕ → List ℕ → Type 0
   Own k j image = looked (deciphered t) (k / G.pages) (k % G.pages) (take 272 (drop (272 * j) image)) ≡ true
 
-  -- the next n records of an image, each of its place, are the sealing afresh of the pages that they hold
-  opened : (n m : ℕ) (image : List ℕ) → length image ≡ 272 * n → AllBytes image → ((j k : ℕ) → k ≡ m + j → j < n → Own k j image) → Opened n m image
-  unfolding in_order first_pages
-  opened zero m image long bytes own = record { same = sym (nil_from_length image (omega (arith, long))); each = tt; count = refl }
-  opened (suc n) m image long bytes own =
-      let r : Bytes 272 (take 272 image) = Bytes-take 272 image (omega (arith, long)) bytes in
+  -- slots that are seen as pages are those of the pages that their records hold
+  all_pages : (n m : ℕ) (image : List ℕ) → ((j k : ℕ) → k ≡ m + j → j < n → Own k j image) → view t G m n image ≡ as_slots (first_pages t n image)
+  unfolding view seen first_pages
+  all_pages zero m image own = refl
+  all_pages (suc n) m image own =
       let later : (j k : ℕ) → k ≡ suc m + j → j < n → Own k j (drop 272 image) =
       λ j k e l.
       let from : drop (272 * j) (drop 272 image) ≡ drop (272 * suc j) image =
       drop-drop (272 * j) 272 image ∙ ap (λ (i : ℕ). drop i image) (omega arith) in
       ap (λ (x : List ℕ). looked (deciphered t) (k / G.pages) (k % G.pages) (take 272 x)) from ∙ own (suc j) k (omega (arith, e)) (omega (arith, l)) in
-      let rest = opened n (suc m) (drop 272 image) (omega (arith, long, length-drop 272 image)) (AllBytes-drop 272 image bytes) later in
-      record {
-        same =
-            ap₂ ◌++◌ (sealed-page_of t (m / G.pages) (m % G.pages) s (take 272 image) r.long r.byte (own 0 m (omega arith) (omega arith))) rest.same
-            ∙ take-append-drop 272 image;
-        each = (page_of-bytes t (take 272 image) r.long r.byte, rest.each);
-        count = ap suc rest.count;
-      }
+      let page : List ℕ = page_of (deciphered t) (take 272 image) in
+      ap₂ (λ (x : Slot) (xs : List Slot). x ∷ xs) (ap (λ (b : Bool). cond b (Page page) (Raw (take 272 image))) (own 0 m (omega arith) (omega arith)))
+      (all_pages n (suc m) (drop 272 image) later)
 
   -- an image whose every record is of its place is the sealing afresh of its pages
   pub sealing-pages_of : (image : List ℕ) → Readable t G image → (sealing t G (pages_of t G image) ≡ image) × Pages G (pages_of t G image)
-  unfolding sealing pages_of image_length record_at slot
+  unfolding pages_of slots_of record_at slot
   sealing-pages_of image h =
       let own : (j k : ℕ) → k ≡ 0 + j → j < G.pages * G.banks → Own k j image =
       λ j k e l.
@@ -86,8 +76,11 @@ module _ (t : Twofish) (G : Geometry) (s : Schedule t) where
       let at = split k G.pages G.banks (subst (λ (n : ℕ). n < G.pages * G.banks) (sym same) l) in
       ap (λ (n : ℕ). looked (deciphered t) (k / G.pages) (k % G.pages) (take 272 (drop (272 * n) image))) (sym (at.again ∙ same))
       ∙ h.own (k / G.pages) (k % G.pages) at.bank at.page in
-      let o = opened (G.pages * G.banks) 0 image h.long h.byte own in
-      (o.same, record { count = o.count; each = o.each })
+      let v = image_of-slots_of t G s image h.long h.byte in
+      let pages = all_pages (G.pages * G.banks) 0 image own in (
+        sym (image_of-pages t G (first_pages t (G.pages * G.banks) image)) ∙ ap (image_of t G) (sym pages) ∙ v.0,
+        pages-slots t G (first_pages t (G.pages * G.banks) image) (subst (Slots t G) pages v.1),
+      )
 
   -- the reverse: the sealing afresh of any pages is readable
   pub sealing-readable : in_range G ≡ true → (pages : List (List ℕ)) → Pages G pages → Readable t G (sealing t G pages)

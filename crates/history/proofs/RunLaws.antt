@@ -1,5 +1,6 @@
 -- A series of calls goes on a state as on another that it is made from, where each call does.
-use Rattle.std.proofs.Common.{◌≡◌, ℕ, zero, suc, List, [], ◌∷◌, eqb, cond, All, Bool, true, false, refl, ap, ap₂, ◌∙◌, arith}
+use Rattle.std.proofs.Common.{◌≡◌, ℕ, List, [], ◌∷◌, eqb, cond, All, Bool, true, false, refl, ap, ap₂, ◌∙◌}
+use Rattle.std.proofs.lemmas.List.Elements.{All-nil, All-cons, All-head, All-tail}
 use borrow.Author.Tests.{eqb-true}
 use Rattle.spans.specs.Refusals.{leaves}
 use Rattle.twofish.specs.Answers.{answer}
@@ -55,8 +56,8 @@ module _ {S T : Type 0} (A : Acts S) (B : Acts T) (f : T → S) (P : T → Type 
     unfolding outcomes at_end
     goes [] y b p = record { same = refl; end = refl; kept = p }
     goes (c ∷ cs) y b p =
-        let h : Follows c y = follows c y (b 0 c (omega arith)) p in
-        let rest : Goes cs (after B c y) = goes cs (after B c y) (λ k d l. b (suc k) d (omega (arith, l))) (kept c y h p) in
+        let h : Follows c y = follows c y (All-head WritesBytes c cs b) p in
+        let rest : Goes cs (after B c y) = goes cs (after B c y) (All-tail WritesBytes c cs b) (kept c y h p) in
         record {
           same = ap₂ (λ (o : Outcome) (os : List Outcome). o ∷ os) (alike c y h) (ap (outcomes A cs) (made c y h) ∙ rest.same);
           end = ap (at_end A cs) (made c y h) ∙ rest.end;
@@ -68,6 +69,5 @@ pub All-outcomes :
     {S : Type 0} (acts : Acts S) (P : Outcome → Type 0) → ((c : Call) (y : S) → P (outcome acts c y)) → (cs : List Call) (y : S)
     → All P (outcomes acts cs y)
 unfolding outcomes
-All-outcomes acts P p [] y k d l = absurd (omega (arith, l))
-All-outcomes acts P p (c ∷ cs) y zero d l = p c y
-All-outcomes acts P p (c ∷ cs) y (suc k) d l = All-outcomes acts P p cs (after acts c y) k d (omega (arith, l))
+All-outcomes acts P p [] y = All-nil P
+All-outcomes acts P p (c ∷ cs) y = All-cons P (outcome acts c y) (outcomes acts cs (after acts c y)) (p c y) (All-outcomes acts P p cs (after acts c y))

@@ -107,7 +107,8 @@ pub extern "C" fn hf_patch(
     }
 }
 
-// The patches of a list made one by one, at most 64, each with its bytes from those that are lent. If one would be refused, none is made and every byte stays.
+// The patches of a list made one by one, at most 64, each with its bytes from those that are lent. If one would be refused, none is made and every
+// byte stays.
 #[unsafe(no_mangle)]
 pub extern "C" fn hf_patch_list(
     key: &[u8],

@@ -1,4 +1,5 @@
-// Seals, reads and patches pages of an image of 64 pages in each of four banks, one by one and by a list, and shows each call's answer with what the image held before and after.
+// Seals, reads and patches pages of an image of 64 pages in each of four banks, one by one and by a list, and shows each call's answer with what the
+// image held before and after.
 #![tactic(auto)]
 
 use boxful::{ListAnswer, Patch};

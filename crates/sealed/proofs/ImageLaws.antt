@@ -1,12 +1,12 @@
 -- Laws of a geometry in range, of its images and its slots.
-use Rattle.std.proofs.Common.{◌≡◌, ℕ, ◌+◌, ◌*◌, ◌/◌, ◌%◌, ◌<◌, ◌≤◌, ◌-◌, List, length, take, drop, length-drop, Bool, true, false, not, [], ◌∷◌, ◌&&◌, refl, sym, ap₂, ◌∙◌, arith}
+use Rattle.std.proofs.Common.{◌≡◌, ℕ, ◌+◌, ◌*◌, ◌/◌, ◌%◌, ◌<◌, ◌≤◌, ◌-◌, List, length, take, drop, length-drop, Bool, true, false, ◌++◌, ◌&&◌, refl, sym, ap₂, ◌∙◌, arith}
 use Rattle.std.proofs.lemmas.Bool.{leb-true}
 use Rattle.std.proofs.lemmas.Nat.{div-mul-add, mod-mul-add, mul-add-lt}
 use borrow.Author.Tests.{lt-ltb, le-leb, ltb-true, ltb-false, eqb-true, not-false}
 use lib.Seq.{length-take-le}
 use native.Mathlib.Nat.{mul-le-mul_right}
 use Rattle.sealed.specs.declared.Geometry.{Geometry}
-use Rattle.spans.specs.Refusals.{◌when◌, given}
+use Rattle.spans.specs.Refusals.{Line, given}
 use Rattle.sealed.specs.Image.{up_to_256, in_range, reached, slot, image_length, record_at, image_refusals, image_number, refusals, seal_number}
 use Rattle.spans.proofs.RefusalLaws.{given_after, given_kept, given_none, given_zero}
 use Rattle.twofish.specs.declared.Twofish.{Twofish}
@@ -73,16 +73,16 @@ module _ {G : Geometry} {bank page : ℕ} (there : There G bank page) where
   unfolding slot
   slot-page = mod-mul-add bank G.pages page there.paged
 
-module _ (t : Twofish) (G : Geometry) (long : ℕ) (placed fits : Bool) where
-  -- a refusal of the image is that of a call on it
-  pub refused_before : (e : ℕ) → (e ≡ 0 → ⊥) → e ≡ image_number t G long → e ≡ given (refusals t G long placed fits)
-  unfolding image_number refusals
-  refused_before e some k = k ∙ sym (given_kept (image_refusals t G long) _ (λ z. some (k ∙ z)))
+-- the refusals of an image, and others after them
+module _ (t : Twofish) (G : Geometry) (long : ℕ) (others : List Line) where
+  pub image_refused : (e : ℕ) → (e ≡ 0 → ⊥) → e ≡ image_number t G long → e ≡ given (image_refusals t G long ++ others)
+  unfolding image_number
+  image_refused e some k = k ∙ sym (given_kept (image_refusals t G long) others (λ z. some (k ∙ z)))
 
-  -- and where there is none, the place and the length decide
-  pub judged_after : 0 ≡ image_number t G long → given (refusals t G long placed fits) ≡ given (6 when not placed ∷ 7 when not fits ∷ [])
-  unfolding image_number refusals image_refusals
-  judged_after k = given_after (image_refusals t G long) _ ((given_zero (image_refusals t G long) tt).0 (sym k))
+  -- where there is none, the others decide
+  pub image_taken : 0 ≡ image_number t G long → given (image_refusals t G long ++ others) ≡ given others
+  unfolding image_number image_refusals
+  image_taken k = given_after (image_refusals t G long) others ((given_zero (image_refusals t G long) tt).0 (sym k))
 
 -- what holds of a call that is taken up to its look
 pub record Taken (t : Twofish) (G : Geometry) (long : ℕ) (placed fits : Bool) : Type 0 where
