@@ -1,8 +1,8 @@
--- Each public function's promise admits one outcome, and the constant for a refused key is what set-up hands back.
+-- Each public function's promise admits one outcome, the constant for a refused key is what set-up hands back, and the sizes are document 01's.
 use Rattle.std.proofs.Common.{◌≡◌, refl, sym, ◌∙◌}
 use Rattle.words.proofs.Outcome.{OneResult}
 use Rattle.twofish.specs.Schedule.{refused}
-use Rattle.twofish.specs.declared.TheConstants.Twofish.{REFUSED}
+use Rattle.twofish.specs.declared.TheConstants.Twofish.{BLOCK, SUBKEYS, REFUSED}
 use Rattle.twofish.proofs.AnswerLaws.{handed_back-injective}
 use Rattle.twofish.proofs.U32FromRefusal.from.Reads as number
 use Rattle.twofish.proofs.AnswerFromResultUnitRefusal.from.Reads as answer_from
@@ -24,3 +24,9 @@ new_one κ a r r' s s' p p' = handed_back-injective r r' (p ∙ sym p')
 pub refused_constant : REFUSED ≡ refused
 unfolding refused
 refused_constant = refl
+
+pub block_constant : BLOCK ≡ 16
+block_constant = refl
+
+pub subkeys_constant : SUBKEYS ≡ 40
+subkeys_constant = refl
