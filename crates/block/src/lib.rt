@@ -254,8 +254,10 @@ fn turn_block<D: Direction>(t: Twofish, block: &mut [u8]) -> Result<(), Refusal>
     ensures outcome { answered result ≡ answer (block_number t block.old) 0 }
     ensures block { block.new ≡ cond (eqb (block_number t block.old) 0) (block_of (D.turned (g_of t) (keys_of t) (words_of block.old))) block.old }
 {
+    // Before the schedule is copied, so that a block of another length costs no copy; refusal 2 comes first all the same.
+    let w = Words::try_from(&*block);
     let cipher = Cipher::try_from(t)?;
-    let w = Words::try_from(&*block)?;
+    let w = w?;
     block.copy_from_slice(&<[u8; 16]>::from(D::turn(&cipher, w)));
     Ok(())
 }
