@@ -171,7 +171,7 @@ static hf_list_answer expected(const other *o, call *c) {
         if (n < 1 || n > PAGE) {
             return refused(7);
         }
-        memset(plain, 0, PAGE);
+        memset(plain, 0xff, PAGE);
         memcpy(plain, bytes, n);
         seal_record(o, c->bank, c->at, plain, record_of(c, c->bank, c->at));
         return done(17);

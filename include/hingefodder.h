@@ -80,8 +80,8 @@ hf_answer hf_encipher(const uint8_t *key, size_t key_length, uint8_t *block, siz
 /* Deciphers the block where it lies. Refused by 1 and 3. Count 0. */
 hf_answer hf_decipher(const uint8_t *key, size_t key_length, uint8_t *block, size_t block_length);
 
-/* Seals 1 to 256 plain bytes as page `page` of bank `bank`; a short page is filled at its end with zeros. The record that was there is replaced
-   without a look at it. Refused by 1, 4, 5, 6 (bank, page) and 7. Count 17. */
+/* Seals 1 to 256 plain bytes as page `page` of bank `bank`; a short page is filled at its end with ff, as an erased part reads. The record that was
+   there is replaced without a look at it. Refused by 1, 4, 5, 6 (bank, page) and 7. Count 17. */
 hf_answer hf_seal(const uint8_t *key, size_t key_length, uint32_t pages, uint32_t banks, uint8_t *image, size_t image_length,
                   uint32_t bank, uint32_t page, const uint8_t *plain, size_t plain_length);
 

@@ -40,6 +40,7 @@ int main(int count, char **words)
     want(rom != NULL, "no ROM");
     for (int slot = 0; slot < pages * banks; slot++) {
         unsigned char record[RECORD] = {(unsigned char)(slot / pages), (unsigned char)(slot % pages)};
+        memset(record + RECORD - PAGE, 0xff, PAGE); /* what the ROM does not reach reads as an erased part */
         want(fread(record + RECORD - PAGE, 1, PAGE, rom) == PAGE || feof(rom), "the ROM cannot be read");
         want(gcry_cipher_reset(cipher) == 0 && gcry_cipher_encrypt(cipher, record, RECORD, NULL, 0) == 0, "nothing is enciphered");
         want(fwrite(record, 1, RECORD, stdout) == RECORD, "nothing is written");

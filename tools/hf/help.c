@@ -9,10 +9,10 @@
 
 static const char HELP_SEAL[] =
     "Seals a plain ROM into a new image. The ROM is laid out bank after bank, page\n"
-    "after page of 256 bytes. A short last page is filled with zeros, and a page that\n"
-    "the ROM does not reach is sealed as an empty page. A ROM that is longer than the\n"
-    "geometry holds is refused. An image of that name is replaced, in one step at the\n"
-    "end.\n"
+    "after page of 256 bytes. A short last page is filled with ff, as an erased part\n"
+    "reads, and a page that the ROM does not reach is all ff. A ROM that is longer\n"
+    "than the geometry holds is refused. An image of that name is replaced, in one\n"
+    "step at the end.\n"
     "\n"
     "  hf seal --key @box.key --pages 64 --banks 4 game.rom game.img\n";
 

@@ -2,7 +2,8 @@
 
 #include "hf.h"
 
-static const uint8_t EMPTY[HF_PAGE];
+/* All that is given of an erased page: the library fills the rest. */
+static const uint8_t ERASED[] = {0xff};
 static uint8_t rom[HF_PAGE * HF_PAGES_MAX * HF_BANKS_MAX + 1];
 
 /* Reads the ROM, which has at least one byte and no more than the geometry holds; answers its length. */
@@ -18,16 +19,16 @@ static size_t load_rom(const char *name, const struct image *image)
     return length;
 }
 
-/* Seals the slot: with its bytes of the ROM, or as an empty page where the ROM has none. Answers whether it had some. */
+/* Seals the slot: with its bytes of the ROM, or as an erased page where the ROM has none. Answers whether it had some. */
 static bool seal_slot(const struct image *image, size_t slot, size_t rom_length)
 {
     uint32_t bank = (uint32_t)(slot / image->pages), page = (uint32_t)(slot % image->pages);
     size_t at = slot * HF_PAGE;
     bool filled = at < rom_length;
-    size_t left = filled ? rom_length - at : 0;
-    size_t length = left == 0 || left > HF_PAGE ? HF_PAGE : left;
+    size_t left = filled ? rom_length - at : sizeof ERASED;
+    size_t length = left > HF_PAGE ? HF_PAGE : left;
     hf_answer answer = hf_seal(image->key, image->key_length, image->pages, image->banks, image->bytes, image->length, bank, page,
-                               filled ? rom + at : EMPTY, length);
+                               filled ? rom + at : ERASED, length);
     struct span asked = {bank, page * HF_PAGE, length};
     if (answer.number != HF_DONE)
         refuse(answer.number, image, &asked, 0);

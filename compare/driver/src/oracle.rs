@@ -23,9 +23,10 @@ fn xor(block: &mut [u8; 16], chain: &[u8; 16]) {
     }
 }
 
-/// CBC with a zero first chaining block, over the place block and the page, which zeros fill at its end.
+/// CBC with a zero first chaining block, over the place block and the page, which bytes of ff fill at its end.
 pub fn sealed(t: &Twofish, bank: u8, page: u8, plain: &[u8]) -> [u8; RECORD] {
-    let mut record = [0; RECORD];
+    let mut record = [0xff; RECORD];
+    record[..16].fill(0);
     record[0] = bank;
     record[1] = page;
     record[16..16 + plain.len()].copy_from_slice(plain);

@@ -10,3 +10,4 @@ pub mod AccessLaws
 pub mod PatchLaws
 pub mod PatchFacts
 pub mod PageLaws
+pub mod Before

@@ -10,7 +10,7 @@ use Rattle.block.proofs.Bytes16.{enciphered-bytes, deciphered-bytes}
 use Rattle.block.proofs.Undone.{undone, redone}
 use Rattle.block.proofs.ThereAndBack.{deciphered-length}
 use Rattle.sealed.specs.Cbc.{cbc, uncbc}
-use Rattle.sealed.specs.Record.{place_block, filled, sealed, page_of}
+use Rattle.sealed.specs.Record.{place_block, fill_byte, filled, sealed, page_of}
 use Rattle.sealed.proofs.RecordLaws.{laid-length}
 use Rattle.sealed.proofs.ChainLaws.{through-length}
 use Rattle.sealed.proofs.Blocks.{xored-length}
@@ -63,7 +63,7 @@ unfolding sealed place_block filled
 opened-sealed t b p plain s hb hp h bytes =
     uncbc-cbc (enciphered t) (deciphered t) (enciphered-bytes t) (λ l k. undone t l s k) 17 (replicate 16 0) _ (Bytes-replicate 16 0 (lit< tt))
     (omega (arith, laid-length b p plain h))
-    (AllBytes-append (b ∷ p ∷ replicate 14 0) _ place (AllBytes-append plain _ bytes (AllBytes-replicate _ 0 (lit< tt))))
+    (AllBytes-append (b ∷ p ∷ replicate 14 0) _ place (AllBytes-append plain _ bytes (AllBytes-replicate _ fill_byte (lit< tt))))
   where
     place : AllBytes (b ∷ p ∷ replicate 14 0)
     place zero = hb
@@ -73,7 +73,7 @@ opened-sealed t b p plain s hb hp h bytes =
 -- a page of 256 bytes is filled with nothing
 pub filled-page : (page : List ℕ) → length page ≡ 256 → filled page ≡ page
 unfolding filled
-filled-page page h = ap (λ (n : ℕ). page ++ replicate n 0) (ap (λ (k : ℕ). 256 - k) h) ∙ append-nil page
+filled-page page h = ap (λ (n : ℕ). page ++ replicate n fill_byte) (ap (λ (k : ℕ). 256 - k) h) ∙ append-nil page
 
 -- 272 bytes that open to a place and a page are the record of that page at that place
 pub sealed-opened :

@@ -11,7 +11,7 @@ use Rattle.twofish.specs.declared.Twofish.{Twofish}
 use Rattle.block.specs.Block.{enciphered, deciphered, Schedule}
 use Rattle.block.proofs.Bytes16.{enciphered-bytes, deciphered-bytes}
 use Rattle.sealed.specs.Cbc.{cbc, uncbc}
-use Rattle.sealed.specs.Record.{place_block, filled, sealed, looked, page_of}
+use Rattle.sealed.specs.Record.{place_block, fill_byte, filled, sealed, looked, page_of}
 use Rattle.sealed.proofs.RecordLaws.{laid-length}
 use Rattle.sealed.proofs.OpenLaws.{opened-sealed, first_opened, sealing, uncbc-length}
 
@@ -19,7 +19,7 @@ use Rattle.sealed.proofs.OpenLaws.{opened-sealed, first_opened, sealing, uncbc-l
 pub filled-bytes : (plain : List ℕ) → length plain ≤ 256 → AllBytes plain → Bytes 256 (filled plain)
 unfolding filled
 filled-bytes plain h bytes =
-    let whole = Bytes-append record { long = refl; byte = bytes } (Bytes-replicate (256 - length plain) 0 (lit< tt)) in
+    let whole = Bytes-append record { long = refl; byte = bytes } (Bytes-replicate (256 - length plain) fill_byte (lit< tt)) in
     record { long = whole.long ∙ omega (arith, h); byte = whole.byte }
 
 -- bytes laid over a page leave a page

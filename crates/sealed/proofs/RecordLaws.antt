@@ -1,33 +1,42 @@
 -- Laws of a record: how the code lays it out and looks at it, and its length.
-use Rattle.std.proofs.Common.{◌≡◌, ℕ, suc, ◌+◌, ◌-◌, ◌≤◌, List, [], ◌∷◌, ◌++◌, length, take, drop, replicate, set, get_or, ◌&&◌, eqb, refl, sym, ap, ap₂, ◌∙◌, arith, length-append}
-use Rattle.std.proofs.lemmas.List.{take-replicate, drop-replicate}
+use Rattle.std.proofs.Common.{◌≡◌, ℕ, ◌+◌, ◌-◌, ◌≤◌, List, [], ◌∷◌, ◌++◌, length, take, drop, replicate, get_or, ◌&&◌, eqb, refl, sym, ap, ◌∙◌, arith, length-append, append_assoc}
 use Rattle.std.proofs.Math.ListN.{length-replicate}
 use lib.Pointwise.{pointwise}
 use lib.Seq.{take_all}
 use Rattle.spans.specs.Parts.{splice}
 use Rattle.spans.specs.Bytes.{xor_bytes}
+use Rattle.spans.proofs.PartsLaws.{splice-length, take-splice, splice_end}
 use Rattle.sealed.specs.Cbc.{cbc}
 use Rattle.sealed.proofs.ChainLaws.{through-length}
-use Rattle.sealed.specs.Record.{place_block, filled, sealed, looked}
+use Rattle.sealed.specs.Record.{place_block, fill_byte, filled, sealed, looked}
 
--- bank and page at the front of zeros
-pub fronted : (n b p : ℕ) → set (set (replicate (suc (suc n)) 0) 0 b) 1 p ≡ b ∷ p ∷ replicate n 0
-fronted n b p = refl
+pub place_block-length : (b p : ℕ) → length (place_block b p) ≡ 16
+unfolding place_block
+place_block-length b p = refl
 
--- plain bytes after the place block, and zeros after them
-pub laid : (b p : ℕ) (plain : List ℕ) → length plain ≤ 256 → splice 16 plain (b ∷ p ∷ replicate 270 0) ≡ place_block b p ++ filled plain
-unfolding splice place_block filled
-laid b p plain h =
-    let on : 16 + length plain ≡ suc (suc (14 + length plain)) = omega arith in
-    let left : 270 - (14 + length plain) ≡ 256 - length plain = omega arith in
-    ap₂ (λ (f r : List ℕ). b ∷ p ∷ f ++ (plain ++ r)) (take-replicate 14 270 0 (omega arith))
-    (ap (λ (n : ℕ). drop n (b ∷ p ∷ replicate 270 0)) on ∙ drop-replicate (14 + length plain) 270 0 ∙ ap (λ (n : ℕ). replicate n 0) left)
+-- the place block, the plain bytes after it, and the fill byte after them
+pub laid :
+    (b p : ℕ) (plain l : List ℕ) → length plain ≤ 256 → length l ≡ 272
+    → splice (16 + length plain) (replicate (256 - length plain) fill_byte) (splice 16 plain (splice 0 (place_block b p) l)) ≡ place_block b p ++ filled plain
+unfolding place_block filled
+laid b p plain l h long =
+    let front : List ℕ = b ∷ p ∷ replicate 14 0 in
+    let rest : List ℕ = replicate (256 - length plain) fill_byte in
+    let place : List ℕ = splice 0 front l in
+    let place-long = splice-length 0 front l (omega (arith, long)) in
+    let both-long = splice-length 16 plain place (omega (arith, h, long, place-long)) in
+    splice_end (16 + length plain) rest (splice 16 plain place)
+    (omega (arith, h, long, place-long, both-long, length-replicate {A = ℕ} (256 - length plain) fill_byte))
+    ∙ ap (λ (m : List ℕ). m ++ rest)
+    (take-splice 16 plain place (omega (arith, h, long, place-long))
+    ∙ ap (λ (m : List ℕ). m ++ plain) (take-splice 0 front l (omega (arith, long))))
+    ∙ append_assoc front plain rest
 
 pub laid-length : (b p : ℕ) (plain : List ℕ) → length plain ≤ 256 → length (place_block b p ++ filled plain) ≡ 272
 unfolding place_block filled
 laid-length b p plain h =
-    length-append (b ∷ p ∷ replicate 14 0) (plain ++ replicate (256 - length plain) 0)
-    ∙ omega (arith, length-append plain (replicate (256 - length plain) 0), length-replicate {A = ℕ} (256 - length plain) 0)
+    length-append (b ∷ p ∷ replicate 14 0) (plain ++ replicate (256 - length plain) fill_byte)
+    ∙ omega (arith, length-append plain (replicate (256 - length plain) fill_byte), length-replicate {A = ℕ} (256 - length plain) fill_byte)
 
 -- the look at a record is one at its first two bytes and one at the zeros after them
 pub looked_split :

@@ -9,9 +9,9 @@ use Rattle.sealed.specs.Cbc.{cbc, uncbc}
 unfoldable pub place_block : ℕ → ℕ → List ℕ
 place_block bank page = bank ∷ page ∷ replicate 14 0
 
--- the byte that fills a short page at its end
+-- the byte that fills a short page at its end: what an erased part reads
 abbrev pub fill_byte : ℕ
-fill_byte = 0
+fill_byte = 0xff
 
 -- the page of 256 bytes that plain bytes make
 unfoldable pub filled : List ℕ → List ℕ

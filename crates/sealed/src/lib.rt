@@ -16,6 +16,9 @@ use twofish::{Refusal, Twofish};
 // Blocks of a record: the place and sixteen of the page.
 const BLOCKS: u32 = 17;
 
+// What an erased part reads, which fills a short page at its end.
+const FILL: u8 = 0xff;
+
 // Pages in a bank, and banks.
 #[derive(Clone, Copy, Debug, PartialEq, Eq)]
 pub struct Geometry {
@@ -104,16 +107,25 @@ fn judged(
     Ok(())
 }
 
+// The place block of a bank's page.
+fn place_block(bank: u8, page: u8) -> [u8; 16]
+    ensures { result ≡ place_block bank page }
+{
+    let mut block = [0; 16];
+    block[0] = bank;
+    block[1] = page;
+    block
+}
+
 // The place block and the page that plain bytes make, laid into a record.
 fn lay(bank: u8, page: u8, plain: &[u8], blocks: &mut [u8])
     requires { (length blocks.old ≡ 272) × (length plain.now ≤ 256) }
     ensures { blocks.new ≡ place_block bank page ++ filled plain.now }
 {
     let n = 16 + plain.len();
-    spans::fill(blocks, 0);
-    blocks[0] = bank;
-    blocks[1] = page;
+    blocks[0..16].copy_from_slice(&place_block(bank, page));
     blocks[16..n].copy_from_slice(plain);
+    spans::fill(&mut blocks[n..], FILL);
 }
 
 // A schedule that a call has accepted.
