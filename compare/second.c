@@ -6,7 +6,7 @@
 #include <stdlib.h>
 #include <string.h>
 
-enum { PAGE = 256, RECORD = 272, GUARD = 32, MOST = 13 * RECORD, ITEMS = 64, NUMBERS = 11 };
+enum { PAGE = 256, RECORD = 272, GUARD = 32, MOST = 13 * RECORD, ITEMS = 64, NUMBERS = 12 };
 
 // From so many calls on, a number that none of them met is a failure too.
 enum { MANY = 2000 };
@@ -71,9 +71,18 @@ static void seal_record(const other *o, uint32_t bank, uint32_t page, const uint
     }
 }
 
-// The page that a record holds, and whether it is the record of that place.
-static bool open_record(const other *o, uint32_t bank, uint32_t page, const uint8_t *record, uint8_t *plain) {
-    uint8_t place[16] = {(uint8_t)bank, (uint8_t)page}, block[16];
+static hf_list_answer refused(uint32_t number) {
+    return (hf_list_answer){.number = number};
+}
+
+static hf_list_answer done(uint32_t count) {
+    return (hf_list_answer){.count = count};
+}
+
+// The page that a record holds, and 0; or refused by 11 where its first block names another place, and by 8 where it names none.
+static hf_list_answer open_record(const other *o, uint32_t bank, uint32_t page, const uint8_t *record, uint8_t *plain) {
+    static const uint8_t zeros[14];
+    uint8_t block[16];
     memcpy(block, record, 16);
     o->decipher(block);
     for (int i = 1; i < 17; i++) {
@@ -84,31 +93,26 @@ static bool open_record(const other *o, uint32_t bank, uint32_t page, const uint
             to[j] ^= record[16 * (i - 1) + j];
         }
     }
-    return memcmp(block, place, 16) == 0;
-}
-
-static hf_list_answer refused(uint32_t number) {
-    return (hf_list_answer){number, 0, 0};
-}
-
-static hf_list_answer done(uint32_t count) {
-    return (hf_list_answer){0, count, 0};
+    if (memcmp(block + 2, zeros, 14) != 0) {
+        return refused(8);
+    }
+    return block[0] == bank && block[1] == page ? done(0) : (hf_list_answer){.number = 11, .bank = block[0], .page = block[1]};
 }
 
 static uint8_t *record_of(call *c, uint32_t bank, uint32_t page) {
     return start(&c->image) + RECORD * (bank * c->pages + page);
 }
 
-// The first of refusals 6, 7 and 8 that holds of so many bytes, else 0 and the page that the record holds.
-static uint32_t judge(const other *o, call *c, uint32_t bank, uint32_t offset, size_t length, uint8_t *plain) {
+// The first of refusals 6, 7, and 8 or 11 that holds of so many bytes, else 0 and the page that the record holds.
+static hf_list_answer judge(const other *o, call *c, uint32_t bank, uint32_t offset, size_t length, uint8_t *plain) {
     uint32_t page = offset / PAGE;
     if (bank >= c->banks || page >= c->pages) {
-        return 6;
+        return refused(6);
     }
     if (length < 1 || length > PAGE || offset % PAGE + length > PAGE) {
-        return 7;
+        return refused(7);
     }
-    return open_record(o, bank, page, record_of(c, bank, page), plain) ? 0 : 8;
+    return open_record(o, bank, page, record_of(c, bank, page), plain);
 }
 
 // A patch that is taken, of a page that was opened, and its count.
@@ -128,9 +132,10 @@ static hf_list_answer expected_list(const other *o, call *c) {
     for (uint32_t i = 0; i < c->items; i++) {
         hf_item t = c->item[i];
         bool outside = (uint64_t)t.start + t.length > c->bytes.length;
-        uint32_t number = outside ? 9 : judge(o, c, t.bank, t.offset, t.length, plain);
-        if (number != 0) {
-            return (hf_list_answer){number, 0, i};
+        hf_list_answer judged = outside ? refused(9) : judge(o, c, t.bank, t.offset, t.length, plain);
+        if (judged.number != 0) {
+            judged.place = i;
+            return judged;
         }
     }
     for (uint32_t i = 0; i < c->items; i++) {
@@ -176,9 +181,9 @@ static hf_list_answer expected(const other *o, call *c) {
         seal_record(o, c->bank, c->at, plain, record_of(c, c->bank, c->at));
         return done(17);
     }
-    uint32_t number = judge(o, c, c->bank, c->at, n, plain);
-    if (number != 0) {
-        return refused(number);
+    hf_list_answer judged = judge(o, c, c->bank, c->at, n, plain);
+    if (judged.number != 0) {
+        return judged;
     }
     if (c->entry == READ) {
         memcpy(bytes, plain + c->at % PAGE, n);
@@ -200,7 +205,7 @@ static hf_list_answer given(call *c) {
     case PATCH: answer = hf_patch(key, k, c->pages, c->banks, image, m, c->bank, c->at, bytes, n); break;
     default: return hf_patch_list(key, k, c->pages, c->banks, image, m, c->item, c->items, bytes, n);
     }
-    return (hf_list_answer){answer.number, answer.count, 0};
+    return (hf_list_answer){.number = answer.number, .count = answer.count, .bank = answer.bank, .page = answer.page};
 }
 
 // A key length that the library takes.
@@ -214,12 +219,13 @@ static size_t taken(const other *o) {
     }
 }
 
-// A right record of random bytes, whose place is to be in the image.
+// A record of random bytes in a slot that is to be in the image: of its place, or now and then of any other.
 static void make_record(const other *o, call *c, uint32_t bank, uint32_t page) {
     uint8_t plain[PAGE];
+    bool other_place = below(8) == 0;
     fill(plain, PAGE);
     o->set(start(&c->key), c->key.length);
-    seal_record(o, bank, page, plain, record_of(c, bank, page));
+    seal_record(o, other_place ? below(256) : bank, other_place ? below(256) : page, plain, record_of(c, bank, page));
 }
 
 // A list of up to 65 items, few of them as a rule, on pages anywhere or all on one, and now and then with one of them wrong.
@@ -295,8 +301,8 @@ static void make(const other *o, call *c) {
 
 // The numbers that are answered: by lists, and by the other entries.
 static const bool gives[2][NUMBERS] = {
-    {true, true, false, true, true, true, true, true, true, false, false},
-    {true, true, false, false, true, true, true, true, true, true, true},
+    {true, true, false, true, true, true, true, true, true, false, false, true},
+    {true, true, false, false, true, true, true, true, true, true, true, true},
 };
 
 // Prints how often each was met. Whether each was.
@@ -321,11 +327,11 @@ static bool agree(const other *o, uint64_t seed, long cases) {
         make(o, &before);
         wanted = got = before;
         hf_list_answer a = expected(o, &wanted), b = given(&got);
-        if (a.number != b.number || a.count != b.count || a.place != b.place || memcmp(&wanted, &got, sizeof got) != 0) {
+        if (a.number != b.number || a.count != b.count || a.place != b.place || a.bank != b.bank || a.page != b.page || memcmp(&wanted, &got, sizeof got) != 0) {
             printf("%s: not the same, entry %u with pages %u, banks %u, bank %u, page or offset %u, items %zu, lengths %zu, %zu, %zu: "
-                   "number %u, count %u, place %u, and here number %u, count %u, place %u%s\nAgain: second 1 %llu\n",
+                   "number %u, count %u, place %u, held %u:%u, and here number %u, count %u, place %u, held %u:%u%s\nAgain: second 1 %llu\n",
                    o->name, before.entry, before.pages, before.banks, before.bank, before.at, before.items, before.key.length,
-                   before.image.length, before.bytes.length, a.number, a.count, a.place, b.number, b.count, b.place,
+                   before.image.length, before.bytes.length, a.number, a.count, a.place, a.bank, a.page, b.number, b.count, b.place, b.bank, b.page,
                    memcmp(&wanted, &got, sizeof got) ? ", and bytes differ" : "", (unsigned long long)(seed + (uint64_t)i));
             return false;
         }

@@ -25,7 +25,7 @@
 extern "C" {
 #endif
 
-#define HF_VERSION "0.1.0"
+#define HF_VERSION "0.2.0"
 
 #define HF_BLOCK 16      /* bytes of a block */
 #define HF_PAGE 256      /* plain bytes of a page */
@@ -47,15 +47,19 @@ enum hf_number {
     HF_IMAGE_LENGTH = 5, /* the image is not 272 * pages * banks bytes */
     HF_PLACE = 6,        /* bank, page or offset lies outside the geometry */
     HF_LENGTH = 7,       /* the length is 0 or above 256, or the bytes run past the page's end */
-    HF_OTHER_RECORD = 8, /* the record does not open to its own place: another key, another place, or changed bytes */
+    HF_NO_PLACE = 8,     /* the record does not open to any place: another key, or changed bytes */
     HF_OUTSIDE = 9,      /* start and length of a list's item leave the bytes that are lent with it */
-    HF_TOO_MANY = 10     /* the list has more than 64 items */
+    HF_TOO_MANY = 10,    /* the list has more than 64 items */
+    HF_ELSEWHERE = 11    /* the record opens to another place, which the answer's bank and page say */
 };
 
-/* `number` is one of enum hf_number; `count` is how many blocks were enciphered and written. */
+/* `number` is one of enum hf_number; `count` is how many blocks were enciphered and written. By HF_ELSEWHERE `bank` and `page` say whose record
+   it is, which may lie beyond the geometry; they are 0 in every other answer. */
 typedef struct hf_answer {
     uint32_t number;
     uint32_t count;
+    uint32_t bank;
+    uint32_t page;
 } hf_answer;
 
 /* A patch of a list: `length` bytes for bank `bank` from `offset` on, which are those from `start` on of the bytes that are lent with the list. */
@@ -66,12 +70,14 @@ typedef struct hf_item {
     uint32_t length;
 } hf_item;
 
-/* `number` and `count` as in hf_answer; `place` is that of the first item that is refused, counted from 0. It is 0 where the list as a whole is
-   refused, or is done. */
+/* `number`, `count`, `bank` and `page` as in hf_answer; `place` is that of the first item that is refused, counted from 0. It is 0 where the list
+   as a whole is refused, or is done. */
 typedef struct hf_list_answer {
     uint32_t number;
     uint32_t count;
     uint32_t place;
+    uint32_t bank;
+    uint32_t page;
 } hf_list_answer;
 
 /* Enciphers the block where it lies. Refused by 1 and 3. Count 0. */
@@ -86,18 +92,18 @@ hf_answer hf_seal(const uint8_t *key, size_t key_length, uint32_t pages, uint32_
                   uint32_t bank, uint32_t page, const uint8_t *plain, size_t plain_length);
 
 /* Fills `out` with 1 to 256 plain bytes of bank `bank` from `offset` on (0 to 256 * pages - 1), all inside one page. The image stays as it is.
-   Refused by 1, 4, 5, 6 (bank, offset), 7 and 8. Count 0. */
+   Refused by 1, 4, 5, 6 (bank, offset), 7, and 8 or 11. Count 0. */
 hf_answer hf_read(const uint8_t *key, size_t key_length, uint32_t pages, uint32_t banks, const uint8_t *image, size_t image_length,
                   uint32_t bank, uint32_t offset, uint8_t *out, size_t out_length);
 
 /* Replaces 1 to 256 plain bytes of bank `bank` from `offset` on, all inside one page, and re-enciphers from the first block written into.
-   Refused by 1, 4, 5, 6 (bank, offset), 7 and 8. Count 16 - p / 16, where p is the first byte's place in its page. */
+   Refused by 1, 4, 5, 6 (bank, offset), 7, and 8 or 11. Count 16 - p / 16, where p is the first byte's place in its page. */
 hf_answer hf_patch(const uint8_t *key, size_t key_length, uint32_t pages, uint32_t banks, uint8_t *image, size_t image_length,
                    uint32_t bank, uint32_t offset, const uint8_t *bytes, size_t bytes_length);
 
 /* Makes the patches of a list one by one, in its order, or none of them. `items_length` counts items, 0 to 64; they may share bytes, and name one
    place more than once. The list as a whole is refused by 1, 4, 5 and 10. Then each item is judged on the image as it came, and the first that
-   is refused is named: by 9, 6 (bank, offset), 7 and 8. Count is the sum of what hf_patch counts for each, 0 for an empty list. */
+   is refused is named: by 9, 6 (bank, offset), 7, and 8 or 11. Count is the sum of what hf_patch counts for each, 0 for an empty list. */
 hf_list_answer hf_patch_list(const uint8_t *key, size_t key_length, uint32_t pages, uint32_t banks, uint8_t *image, size_t image_length,
                              const hf_item *items, size_t items_length, const uint8_t *bytes, size_t bytes_length);
 

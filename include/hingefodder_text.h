@@ -25,12 +25,14 @@ static inline const char *hf_text(uint32_t number)
         return "bank, page or offset lies outside the geometry";
     case HF_LENGTH:
         return "the length is 0 or above 256, or the bytes run past the page's end";
-    case HF_OTHER_RECORD:
-        return "the record does not open to its own place";
+    case HF_NO_PLACE:
+        return "the record does not open to any place";
     case HF_OUTSIDE:
         return "start and length of an item leave the bytes that are lent";
     case HF_TOO_MANY:
         return "the list has more than 64 items";
+    case HF_ELSEWHERE:
+        return "the record opens to another place";
     default:
         return "a number that this library does not answer";
     }

@@ -20,14 +20,14 @@ static void want(int right, int line)
 
 static void answers(hf_answer answer, uint32_t number, uint32_t count, int line)
 {
-    want(answer.number == number && answer.count == count, line);
+    want(answer.number == number && answer.count == count && answer.bank == 0 && answer.page == 0, line);
 }
 #define DONE(call, count) answers((call), HF_DONE, (count), __LINE__)
 #define REFUSED(call, number) answers((call), (number), 0, __LINE__)
 
 static void answers_list(hf_list_answer answer, uint32_t number, uint32_t count, uint32_t place, int line)
 {
-    want(answer.number == number && answer.count == count && answer.place == place, line);
+    want(answer.number == number && answer.count == count && answer.place == place && answer.bank == 0 && answer.page == 0, line);
 }
 #define LIST_DONE(call, count) answers_list((call), HF_DONE, (count), 0, __LINE__)
 #define LIST_REFUSED(call, number, place) answers_list((call), (number), 0, (place), __LINE__)
@@ -83,8 +83,8 @@ static void meet_refusals(void)
     REFUSED(hf_seal(key, 16, PAGES, BANKS, room, SIZE, 4, 2, plain, HF_PAGE + 1), HF_LENGTH);
     REFUSED(hf_read(key, 16, PAGES, BANKS, room, SIZE, 4, 0x2ff, out, 2), HF_LENGTH);
     REFUSED(hf_patch(key, 16, PAGES, BANKS, room, SIZE, 4, 0x2ff, NULL, 0), HF_LENGTH);
-    REFUSED(hf_read(key, 16, PAGES, BANKS, room, SIZE, 4, 0x2ff, out, 1), HF_OTHER_RECORD);
-    REFUSED(hf_patch(key, 16, PAGES, BANKS, room, SIZE, 4, 0x2ff, plain, 1), HF_OTHER_RECORD);
+    REFUSED(hf_read(key, 16, PAGES, BANKS, room, SIZE, 4, 0x2ff, out, 1), HF_NO_PLACE);
+    REFUSED(hf_patch(key, 16, PAGES, BANKS, room, SIZE, 4, 0x2ff, plain, 1), HF_NO_PLACE);
     WANT(memcmp(before, room, sizeof room) == 0 && all(out, sizeof out, 0x55));
 }
 
@@ -187,13 +187,35 @@ static void meet_refused_lists(void)
     ITEM_REFUSED(HF_LENGTH, 1, 0x200, LENT, 0);
     ITEM_REFUSED(HF_LENGTH, 0, 0, 0, HF_PAGE + 1);
     ITEM_REFUSED(HF_LENGTH, 1, 0x2ff, 0, 2);
-    ITEM_REFUSED(HF_OTHER_RECORD, 1, 0x200, 0, HF_PAGE);
+    ITEM_REFUSED(HF_NO_PLACE, 1, 0x200, 0, HF_PAGE);
 
     /* The first that is refused is named, whatever its number. */
     static const hf_item two[] = {{1, 0x200, 0, 1}, {0, 0, 99, 1}};
-    LIST_REFUSED(list(two, 2, 1), HF_OTHER_RECORD, 0);
+    LIST_REFUSED(list(two, 2, 1), HF_NO_PLACE, 0);
     LIST_REFUSED(list(two + 1, 1, 1), HF_OUTSIDE, 0);
     WANT(memcmp(before, room, SIZE) == 0);
+}
+
+/* The record of bank 4, page 1 lies in the slots of bank 1, page 2 and of an image of one page: the answer says whose it is, also beyond the
+   geometry. */
+static void find_another_place(void)
+{
+    static const hf_item item[] = {{0, 0, 0, 1}, {1, 0x2ff, 0, 1}};
+    hf_answer read, patched, beyond;
+    hf_list_answer listed;
+    seal_all();
+    memcpy(room + 5 * HF_RECORD, room + 13 * HF_RECORD, HF_RECORD);
+    memcpy(before, room, SIZE);
+    memset(out, 0x55, sizeof out);
+    read = hf_read(key, 16, PAGES, BANKS, room, SIZE, 1, 0x200, out, HF_PAGE);
+    WANT(read.number == HF_ELSEWHERE && read.count == 0 && read.bank == 4 && read.page == 1);
+    patched = hf_patch(key, 16, PAGES, BANKS, room, SIZE, 1, 0x237, plain, 1);
+    WANT(patched.number == HF_ELSEWHERE && patched.count == 0 && patched.bank == 4 && patched.page == 1);
+    listed = list(item, 2, 1);
+    WANT(listed.number == HF_ELSEWHERE && listed.count == 0 && listed.place == 1 && listed.bank == 4 && listed.page == 1);
+    beyond = hf_read(key, 16, 1, 1, room + 13 * HF_RECORD, HF_RECORD, 0, 0, out, 1);
+    WANT(beyond.number == HF_ELSEWHERE && beyond.count == 0 && beyond.bank == 4 && beyond.page == 1);
+    WANT(memcmp(before, room, SIZE) == 0 && all(out, sizeof out, 0x55));
 }
 
 /* The block of zeros under the key of zeros, whose enciphered form is published. */
@@ -219,8 +241,9 @@ int main(void)
     make_lists();
     make_long_list();
     meet_refused_lists();
+    find_another_place();
     turn_a_block();
-    for (uint32_t number = HF_DONE; number <= HF_TOO_MANY + 1; number++)
+    for (uint32_t number = HF_DONE; number <= HF_ELSEWHERE + 1; number++)
         WANT(hf_text(number)[0] != '\0');
     return wrong;
 }

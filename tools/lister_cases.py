@@ -63,18 +63,18 @@ def cases():
     # two banks of four pages. The look is at the first block alone, so a later block that was changed shows nothing
     slots = [
         (right(0, 0), "00:00 ok"),
-        (right(1, 0), "00:01 wrong"),  # of bank 1, page 0
+        (right(1, 0), "00:01 holds 01:00"),  # of bank 1, page 0
         (other(0, 2), "00:02 wrong"),  # under another key
         (changed(right(0, 3), 15), "00:03 wrong"),  # the last byte of the first block
         (right(1, 0), "01:00 ok"),
         (changed(right(1, 1), 16), "01:01 ok"),  # the first byte after it
-        (bytes(272), "01:02 wrong"),
-        (right(1, 3), "01:03 ok"),
+        (right(255, 254), "01:02 holds ff:fe"),  # of a place beyond the geometry
+        (bytes(272), "01:03 wrong"),
     ]
     image = b"".join(record for record, _ in slots)
     lines = "".join(line + "\n" for _, line in slots)
-    yield "whole", opening(4, 2) + image, lines + "ok 4 of 8\n"
-    yield "extra", opening(4, 2) + image + b"\0", lines + "ok 4 of 8\nextra\n"
+    yield "whole", opening(4, 2) + image, lines + "ok 3 of 8\n"
+    yield "extra", opening(4, 2) + image + b"\0", lines + "ok 3 of 8\nextra\n"
 
     # a short tail is taken for its slot, and the slots after it are missing too
     tail = right(0, 0) + right(0, 2)[:271]

@@ -38,10 +38,11 @@ static const char HELP_PATCH[] =
     "  hf patch --key @box.key --pages 64 --banks 4 game.img 3:0x0237 a5 0:0 00ff\n";
 
 static const char HELP_LIST[] =
-    "Prints a line for each slot, with bank and page in hex: ok, or wrong where the\n"
-    "record does not open to its place under this key, or missing where the image ends\n"
-    "before it. Then how many are ok, and extra where bytes remain after the last\n"
-    "record. The status is 1 unless every slot is ok and nothing remains.\n"
+    "Prints a line for each slot, with bank and page in hex: ok; or holds and the\n"
+    "place whose record it is, where that is another; or wrong where the record opens\n"
+    "to no place under this key; or missing where the image ends before it. Then how\n"
+    "many are ok, and extra where bytes remain after the last record. The status is 1\n"
+    "unless every slot is ok and nothing remains.\n"
     "\n"
     "  hf list --key @box.key --pages 64 --banks 4 game.img\n";
 
@@ -110,9 +111,9 @@ void print_usage(const struct command *command, FILE *stream)
 static void print_refusals(void)
 {
     puts("\nWhat the library refuses, by number (an error names it):");
-    for (uint32_t number = HF_KEY_LENGTH; number <= HF_OTHER_RECORD; number++)
-        if (number != HF_SCHEDULE && number != HF_BLOCK_LENGTH)
-            printf("  %u  %s\n", number, hf_text(number));
+    for (uint32_t number = HF_KEY_LENGTH; number <= HF_ELSEWHERE; number++)
+        if (number != HF_SCHEDULE && number != HF_BLOCK_LENGTH && number != HF_OUTSIDE && number != HF_TOO_MANY)
+            printf("  %2u  %s\n", number, hf_text(number));
 }
 
 static _Noreturn void end_output(void)

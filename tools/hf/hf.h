@@ -84,7 +84,7 @@ void want_other_file(const struct request *request, const char *what, const char
 size_t page_part(const struct span *span, size_t done);
 
 /* refusals.c */
-_Noreturn void refuse(uint32_t number, const struct image *image, const struct span *asked, size_t done);
+_Noreturn void refuse(hf_answer answer, const struct image *image, const struct span *asked, size_t done);
 
 /* files.c */
 size_t read_file(const char *name, uint8_t *bytes, size_t room);

@@ -20,7 +20,7 @@ struct image image_of(const struct request *request, const char *name)
     };
     hf_answer answer = hf_read(image.key, image.key_length, image.pages, image.banks, NULL, 0, 0, 0, NULL, 0);
     if (answer.number != HF_IMAGE_LENGTH)
-        refuse(answer.number, &image, NULL, 0);
+        refuse(answer, &image, NULL, 0);
     return image;
 }
 

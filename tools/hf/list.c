@@ -6,7 +6,7 @@
 
 /* How many slots were found in each state. */
 struct counts {
-    size_t slots, ok, wrong, missing;
+    size_t slots, ok, elsewhere, wrong, missing;
 };
 
 /* Prints the line of one slot, and counts it. The file had `length` bytes; those that it lacks are zeros in memory. */
@@ -15,26 +15,36 @@ static void list_slot(const struct image *image, size_t length, size_t slot, str
     uint32_t bank = (uint32_t)(slot / image->pages), page = (uint32_t)(slot % image->pages);
     struct span asked = {bank, page * HF_PAGE, 1};
     uint8_t byte;
-    const char *state;
+    put("%02x:%02x ", bank, page);
     if ((slot + 1) * HF_RECORD > length) {
         counts->missing++;
-        state = "missing";
-    } else {
-        hf_answer answer = hf_read(image->key, image->key_length, image->pages, image->banks, image->bytes, image->length, bank,
-                                   asked.offset, &byte, asked.length);
-        if (answer.number != HF_DONE && answer.number != HF_OTHER_RECORD)
-            refuse(answer.number, image, &asked, 0);
-        counts->ok += answer.number == HF_DONE;
-        counts->wrong += answer.number != HF_DONE;
-        state = answer.number == HF_DONE ? "ok" : "wrong";
+        put("missing\n");
+        return;
     }
-    put("%02x:%02x %s\n", bank, page, state);
+    hf_answer answer = hf_read(image->key, image->key_length, image->pages, image->banks, image->bytes, image->length, bank, asked.offset,
+                               &byte, asked.length);
+    switch (answer.number) {
+    case HF_DONE:
+        counts->ok++;
+        put("ok\n");
+        break;
+    case HF_ELSEWHERE:
+        counts->elsewhere++;
+        put("holds %02x:%02x\n", answer.bank, answer.page);
+        break;
+    case HF_NO_PLACE:
+        counts->wrong++;
+        put("wrong\n");
+        break;
+    default:
+        refuse(answer, image, &asked, 0);
+    }
 }
 
 enum status list(const struct request *request)
 {
     struct image image = image_of(request, request->argument[0]);
-    struct counts counts = {(size_t)image.pages * image.banks, 0, 0, 0};
+    struct counts counts = {.slots = (size_t)image.pages * image.banks};
     bool to_terminal = isatty(STDOUT_FILENO);
 
     image.length = HF_IMAGE(image.pages, image.banks);
@@ -51,7 +61,7 @@ enum status list(const struct request *request)
     flush_output();
     if (counts.ok == counts.slots && length <= image.length)
         return DONE;
-    note("%s is not whole: %zu ok, %zu wrong, %zu missing%s", image.name, counts.ok, counts.wrong, counts.missing,
-         length > image.length ? ", and bytes after the last record" : "");
+    note("%s is not whole: %zu ok, %zu of other places, %zu wrong, %zu missing%s", image.name, counts.ok, counts.elsewhere, counts.wrong,
+         counts.missing, length > image.length ? ", and bytes after the last record" : "");
     return REFUSED;
 }

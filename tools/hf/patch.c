@@ -26,7 +26,7 @@ static uint32_t patch_pages(const struct image *image, const struct span *asked,
         hf_answer answer = hf_patch(image->key, image->key_length, image->pages, image->banks, image->bytes, image->length, asked->bank,
                                     asked->offset + (uint32_t)done, bytes + done, part);
         if (answer.number != HF_DONE)
-            refuse(answer.number, image, asked, done);
+            refuse(answer, image, asked, done);
         blocks += answer.count;
         done += part;
     } while (done < asked->length);

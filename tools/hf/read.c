@@ -18,7 +18,7 @@ static void read_pages(const struct image *image, const struct span *asked)
         hf_answer answer = hf_read(image->key, image->key_length, image->pages, image->banks, image->bytes, image->length, asked->bank,
                                    asked->offset + (uint32_t)done, out + done, part);
         if (answer.number != HF_DONE)
-            refuse(answer.number, image, asked, done);
+            refuse(answer, image, asked, done);
         done += part;
     } while (done < asked->length);
 }

@@ -33,11 +33,17 @@ static _Noreturn void refuse_place(const struct image *image, const struct span 
          asked->bank);
 }
 
-/* Ends with status 1 and the sentence for a number that a call answered: on the part of `asked` that begins after `done` bytes. Numbers up
-   to 5 do not look at `asked`. */
-void refuse(uint32_t number, const struct image *image, const struct span *asked, size_t done)
+/* The page that the span goes on in after `done` bytes. */
+static uint32_t page_of(const struct span *asked, size_t done)
 {
-    switch (number) {
+    return (uint32_t)((asked->offset + done) / HF_PAGE);
+}
+
+/* Ends with status 1 and the sentence for a call's answer: on the part of `asked` that begins after `done` bytes. Numbers up to 5 do not look
+   at `asked`. */
+void refuse(hf_answer answer, const struct image *image, const struct span *asked, size_t done)
+{
+    switch (answer.number) {
     case HF_KEY_LENGTH:
         refuse_key(image);
     case HF_GEOMETRY:
@@ -49,11 +55,14 @@ void refuse(uint32_t number, const struct image *image, const struct span *asked
         refuse_place(image, asked, done);
     case HF_LENGTH:
         fail(REFUSED, "refused by 7: no bytes are asked for at %u:0x%04x, but at least one must be", asked->bank, asked->offset);
-    case HF_OTHER_RECORD:
-        fail(REFUSED, "refused by 8: the record of bank %u, page %u does not open to its place: the key or the geometry is another, or the "
-                      "image was changed",
-             asked->bank, (uint32_t)((asked->offset + done) / HF_PAGE));
+    case HF_NO_PLACE:
+        fail(REFUSED, "refused by 8: the record of bank %u, page %u opens to no place: the key is another, or the image was changed",
+             asked->bank, page_of(asked, done));
+    case HF_ELSEWHERE:
+        fail(REFUSED, "refused by 11: the record of bank %u, page %u is that of bank %u, page %u: the geometry is another, or the record was "
+                      "moved",
+             asked->bank, page_of(asked, done), answer.bank, answer.page);
     default:
-        fail(REFUSED, "refused by %u: %s", number, hf_text(number));
+        fail(REFUSED, "refused by %u: %s", answer.number, hf_text(answer.number));
     }
 }

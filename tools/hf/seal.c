@@ -31,7 +31,7 @@ static bool seal_slot(const struct image *image, size_t slot, size_t rom_length)
                                filled ? rom + at : ERASED, length);
     struct span asked = {bank, page * HF_PAGE, length};
     if (answer.number != HF_DONE)
-        refuse(answer.number, image, &asked, 0);
+        refuse(answer, image, &asked, 0);
     return filled;
 }
 

@@ -21,23 +21,33 @@ pub struct Item {
     pub length: u32,
 }
 
-/// What a call answers: a refusal's number or 0, a count, and the place of the item that is refused. Only a list answers a place.
+/// What a call answers: a refusal's number or 0, a count, the place of the item that is refused, which only a list answers, and by 11 the bank and
+/// the page whose record was found.
 #[repr(C)]
 #[derive(Clone, Copy, PartialEq, Eq, Debug)]
 pub struct Answer {
     pub number: u32,
     pub count: u32,
     pub place: u32,
+    pub bank: u32,
+    pub page: u32,
 }
 
 impl Answer {
+    const NONE: Answer = Answer { number: 0, count: 0, place: 0, bank: 0, page: 0 };
+
     pub fn done(count: u32) -> Answer {
-        Answer { number: 0, count, place: 0 }
+        Answer { count, ..Answer::NONE }
     }
 
-    /// Refused, but not for an item.
+    /// Refused, but not for an item, nor for another place's record.
     pub fn refused(number: u32) -> Answer {
-        Answer { number, count: 0, place: 0 }
+        Answer { number, ..Answer::NONE }
+    }
+
+    /// Refused, since the record is that of another place.
+    pub fn elsewhere(bank: u8, page: u8) -> Answer {
+        Answer { number: 11, bank: bank.into(), page: page.into(), ..Answer::NONE }
     }
 }
 

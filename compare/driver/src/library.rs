@@ -7,11 +7,13 @@ use crate::call::{Answer, Call, Entry, Item};
 struct Short {
     number: u32,
     count: u32,
+    bank: u32,
+    page: u32,
 }
 
 impl From<Short> for Answer {
-    fn from(Short { number, count }: Short) -> Answer {
-        Answer { number, count, place: 0 }
+    fn from(Short { number, count, bank, page }: Short) -> Answer {
+        Answer { number, count, place: 0, bank, page }
     }
 }
 

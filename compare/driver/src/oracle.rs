@@ -85,7 +85,7 @@ fn made(call: &mut Call) -> Result<u32, Answer> {
             let held = held(&t, call, &place)?;
             call.bytes.copy_from_slice(&held[place.first..place.first + length]);
         }
-        Entry::Patch => return Ok(patched(&t, call, call.bank, call.at, &call.bytes.clone())?),
+        Entry::Patch => return patched(&t, call, call.bank, call.at, &call.bytes.clone()),
         Entry::List => return listed(&t, call),
     }
     Ok(0)
@@ -98,7 +98,7 @@ fn listed(t: &Twofish, call: &mut Call) -> Result<u32, Answer> {
         return Err(Answer::refused(10));
     }
     for (place, item) in (0..).zip(&call.items) {
-        judged(t, call, item).map_err(|number| Answer { number, count: 0, place })?;
+        judged(t, call, item).map_err(|refused| Answer { place, ..refused })?;
     }
     let mut count = 0;
     for Item { bank, offset, start, length } in call.items.clone() {
@@ -108,11 +108,11 @@ fn listed(t: &Twofish, call: &mut Call) -> Result<u32, Answer> {
     Ok(count)
 }
 
-/// Whether an item is taken, or the number of its first refusal.
-fn judged(t: &Twofish, call: &Call, item: &Item) -> Result<(), u32> {
+/// Whether an item is taken, or its first refusal.
+fn judged(t: &Twofish, call: &Call, item: &Item) -> Result<(), Answer> {
     let length = item.length as usize;
     if item.start as usize + length > call.bytes.len() {
-        return Err(9);
+        return Err(Answer::refused(9));
     }
     let place = reached(call, item.bank, item.offset, length)?;
     held(t, call, &place)?;
@@ -120,7 +120,7 @@ fn judged(t: &Twofish, call: &Call, item: &Item) -> Result<(), u32> {
 }
 
 /// A patch made, and its count.
-fn patched(t: &Twofish, call: &mut Call, bank: u32, offset: u32, bytes: &[u8]) -> Result<u32, u32> {
+fn patched(t: &Twofish, call: &mut Call, bank: u32, offset: u32, bytes: &[u8]) -> Result<u32, Answer> {
     let place = reached(call, bank, offset, bytes.len())?;
     let mut held = held(t, call, &place)?;
     held[place.first..place.first + bytes.len()].copy_from_slice(bytes);
@@ -171,12 +171,15 @@ fn placed(call: &Call, bank: u32, page: u32, first: usize, length: usize) -> Res
     Ok(Place { bank: bank as u8, page: page as u8, record: start..start + RECORD, first })
 }
 
-/// The page that the record at a place holds, or refusal 8.
-fn held(t: &Twofish, call: &Call, place: &Place) -> Result<Vec<u8>, u32> {
+/// The page that the record at a place holds; or refusal 11, where its first block names another place, and 8 where it names none.
+fn held(t: &Twofish, call: &Call, place: &Place) -> Result<Vec<u8>, Answer> {
     let mut held = opened(t, &call.image[place.record.clone()]);
     let page = held.split_off(16);
-    let mut block = [0; 16];
-    block[0] = place.bank;
-    block[1] = place.page;
-    if held == block { Ok(page) } else { Err(8) }
+    if held[2..] != [0; 14] {
+        return Err(Answer::refused(8));
+    }
+    if (held[0], held[1]) != (place.bank, place.page) {
+        return Err(Answer::elsewhere(held[0], held[1]));
+    }
+    Ok(page)
 }

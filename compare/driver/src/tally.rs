@@ -24,16 +24,16 @@ const ENTRIES: [(Entry, &[usize]); 6] = [
     (Entry::Encipher, &[0, 1, 3]),
     (Entry::Decipher, &[0, 1, 3]),
     (Entry::Seal, &[0, 1, 4, 5, 6, 7]),
-    (Entry::Read, &[0, 1, 4, 5, 6, 7, 8]),
-    (Entry::Patch, &[0, 1, 4, 5, 6, 7, 8]),
-    (Entry::List, &[0, 1, 4, 5, 6, 7, 8, 9, 10]),
+    (Entry::Read, &[0, 1, 4, 5, 6, 7, 8, 11]),
+    (Entry::Patch, &[0, 1, 4, 5, 6, 7, 8, 11]),
+    (Entry::List, &[0, 1, 4, 5, 6, 7, 8, 9, 10, 11]),
 ];
 
 /// How many calls of each kind were made, which answers each entry gave, and which lengths of key and block the directions met.
 #[derive(Default)]
 pub struct Check {
     calls: [u64; KINDS.len()],
-    answers: [[u64; 11]; ENTRIES.len()],
+    answers: [[u64; 12]; ENTRIES.len()],
     lengths: BTreeSet<(usize, usize)>,
 }
 

@@ -5,7 +5,7 @@ use borrow.Author.Tests.{le-ltb, eq-eqb, ne_eqb}
 use Rattle.spans.specs.Refusals.{given}
 use Rattle.twofish.specs.declared.Twofish.{Twofish}
 use Rattle.twofish.specs.declared.Answer.{Answer}
-use Rattle.twofish.specs.Answers.{answer}
+use Rattle.twofish.specs.Answers.{nowhere, told, answer_at, answer}
 use Rattle.block.specs.Block.{block_number}
 
 -- the answer a and the bytes s afterwards are those of a call on l
@@ -17,14 +17,14 @@ pub start_taken : (u t : Twofish) → u ≡ t → u.start ≤ 2 → t.start ≤ 
 start_taken u t e h = subst (λ (v : Twofish). v.start ≤ 2) e h
 
 module _ (t : Twofish) (l x : List ℕ) where
-  pub start_refused : 2 < t.start → Gives t l x record { number = 2; count = 0 } l
-  unfolding block_number given answer
+  pub start_refused : 2 < t.start → Gives t l x (told 2 0 nowhere) l
+  unfolding block_number given answer_at
   start_refused h = let e = lt-ltb _ _ h in (simp e, simp e)
 
-  pub length_refused : t.start ≤ 2 → (length l ≡ 16 → ⊥) → Gives t l x record { number = 3; count = 0 } l
-  unfolding block_number given answer
+  pub length_refused : t.start ≤ 2 → (length l ≡ 16 → ⊥) → Gives t l x (told 3 0 nowhere) l
+  unfolding block_number given answer_at
   length_refused h n = let e = le-ltb _ _ h in let u = ne_eqb _ _ n in (simp (e, u), simp (e, u))
 
-  pub accepted : (s : List ℕ) → t.start ≤ 2 → length l ≡ 16 → s ≡ x → Gives t l x record { number = 0; count = 0 } s
-  unfolding block_number given answer
+  pub accepted : (s : List ℕ) → t.start ≤ 2 → length l ≡ 16 → s ≡ x → Gives t l x (told 0 0 nowhere) s
+  unfolding block_number given answer_at
   accepted s h n p = let e = le-ltb _ _ h in let u = eq-eqb _ _ n in (simp (e, u), simp (e, u) p)

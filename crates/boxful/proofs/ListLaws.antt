@@ -9,12 +9,14 @@ use Rattle.spans.proofs.RefusalLaws.{given_none, given_other}
 use Rattle.twofish.specs.declared.Twofish.{Twofish}
 use Rattle.sealed.specs.declared.Geometry.{Geometry}
 use Rattle.sealed.specs.Image.{image_refusals, image_number, access_number}
-use Rattle.twofish.specs.Answers.{refusal_number}
+use Rattle.std.specs.Prelude.{Err}
+use Rattle.twofish.specs.declared.Location.{Location}
+use Rattle.twofish.specs.Answers.{nowhere, refusal_number, refusal_location}
 use Rattle.twofish.proofs.AnswerLaws.{never_done}
 use Rattle.sealed.proofs.ImageLaws.{image_refused, image_taken}
 use Rattle.boxful.specs.declared.Patch.{Patch}
 use Rattle.boxful.specs.declared.Refused.{Refused}
-use Rattle.boxful.specs.Boxful.{Judged, written, outside, item_number, whole_number, first_refused, judged, list_answer}
+use Rattle.boxful.specs.Boxful.{Judged, written, outside, item_number, item_held, whole_number, first_refused, judged, list_answer, listed}
 
 -- what stands beyond the end of a list
 abbrev pub none : Patch
@@ -27,34 +29,34 @@ chosen n x y e = ap (λ (m : ℕ). cond (eqb m 0) x y) e
 left_out : {X : Type 0} (n : ℕ) (x y : X) → (n ≡ 0 → ⊥) → cond (eqb n 0) x y ≡ y
 left_out n x y some = ap (λ (b : Bool). cond b x y) (ne_eqb n 0 some)
 
-module _ (f : Patch → ℕ) where
+module _ (f : Patch → ℕ) (g : Patch → Location) where
   module _ (ps : List Patch) (i : ℕ) (h : i < length ps) where
-    pub one_taken : f (get_or ps i none) ≡ 0 → first_refused f i (drop i ps) ≡ first_refused f (i + 1) (drop (i + 1) ps)
+    pub one_taken : f (get_or ps i none) ≡ 0 → first_refused f g i (drop i ps) ≡ first_refused f g (i + 1) (drop (i + 1) ps)
     unfolding first_refused
     one_taken e =
         let next : suc i ≡ i + 1 = omega arith in
-        at_drop_more (first_refused f i) ps i none h
+        at_drop_more (first_refused f g i) ps i none h
         ∙ chosen (f (get_or ps i none)) _ _ e
-        ∙ ap (λ (k : ℕ). first_refused f k (drop (i + 1) ps)) next
+        ∙ ap (λ (k : ℕ). first_refused f g k (drop (i + 1) ps)) next
 
-    pub one_refused : (f (get_or ps i none) ≡ 0 → ⊥) → first_refused f i (drop i ps) ≡ record { number = f (get_or ps i none); place = i }
+    pub one_refused : (f (get_or ps i none) ≡ 0 → ⊥) → first_refused f g i (drop i ps) ≡ record { number = f (get_or ps i none); place = i; held = g (get_or ps i none) }
     unfolding first_refused
-    one_refused some = at_drop_more (first_refused f i) ps i none h ∙ left_out (f (get_or ps i none)) _ _ some
+    one_refused some = at_drop_more (first_refused f g i) ps i none h ∙ left_out (f (get_or ps i none)) _ _ some
 
   -- beyond the last there is none
-  pub none_left : (i : ℕ) (ps : List Patch) → length ps ≤ i → first_refused f i (drop i ps) ≡ record { number = 0; place = 0 }
+  pub none_left : (i : ℕ) (ps : List Patch) → length ps ≤ i → first_refused f g i (drop i ps) ≡ record { number = 0; place = 0; held = nowhere }
   unfolding first_refused
-  none_left i ps h = ap (first_refused f i) (drop_all i ps h)
+  none_left i ps h = ap (first_refused f g i) (drop_all i ps h)
 
   -- none is refused only where each is taken
-  pub all_taken : (i : ℕ) (ps : List Patch) → (first_refused f i ps).number ≡ 0 → (j : ℕ) → j < length ps → f (get_or ps j none) ≡ 0
+  pub all_taken : (i : ℕ) (ps : List Patch) → (first_refused f g i ps).number ≡ 0 → (j : ℕ) → j < length ps → f (get_or ps j none) ≡ 0
   unfolding first_refused
   all_taken i [] e j h = absurd (omega (arith, h))
   all_taken i (p ∷ ps) e j h = by (eqb (f p) 0) refl e (all_taken (suc i) ps) j h
     where
       by :
-          (b : Bool) → eqb (f p) 0 ≡ b → (cond b (first_refused f (suc i) ps) record { number = f p; place = i }).number ≡ 0
-          → ((first_refused f (suc i) ps).number ≡ 0 → (k : ℕ) → k < length ps → f (get_or ps k none) ≡ 0)
+          (b : Bool) → eqb (f p) 0 ≡ b → (cond b (first_refused f g (suc i) ps) record { number = f p; place = i; held = g p }).number ≡ 0
+          → ((first_refused f g (suc i) ps).number ≡ 0 → (k : ℕ) → k < length ps → f (get_or ps k none) ≡ 0)
           → (j : ℕ) → j < length (p ∷ ps) → f (get_or (p ∷ ps) j none) ≡ 0
       by true z e rest zero h = eqb-true _ _ z
       by true z e rest (suc j) h = rest e j (omega (arith, h))
@@ -79,12 +81,12 @@ module _ (t : Twofish) (G : Geometry) (long n : ℕ) where
   few_taken e = ltb-false _ _ (given_none 9 _ [] (given_other 0 (image_refusals t G long) (10 when ltb 64 n ∷ []) tt e).1).0
 
 module _ (t : Twofish) (G : Geometry) (image : List ℕ) (ps : List Patch) (lent : List ℕ) where
-  pub judged_whole : (n : ℕ) → (n ≡ 0 → ⊥) → whole_number t G (length image) (length ps) ≡ n → judged t G image ps lent ≡ record { number = n; place = 0 }
+  pub judged_whole : (n : ℕ) → (n ≡ 0 → ⊥) → whole_number t G (length image) (length ps) ≡ n → judged t G image ps lent ≡ record { number = n; place = 0; held = nowhere }
   unfolding judged
   judged_whole n some e =
-      left_out (whole_number t G (length image) (length ps)) _ _ (λ z. some (sym e ∙ z)) ∙ ap (λ (m : ℕ). record { number = m; place = 0 }) e
+      left_out (whole_number t G (length image) (length ps)) _ _ (λ z. some (sym e ∙ z)) ∙ ap (λ (m : ℕ). record { number = m; place = 0; held = nowhere }) e
 
-  pub judged_each : whole_number t G (length image) (length ps) ≡ 0 → judged t G image ps lent ≡ first_refused (item_number t G image lent) 0 ps
+  pub judged_each : whole_number t G (length image) (length ps) ≡ 0 → judged t G image ps lent ≡ first_refused (item_number t G image lent) (item_held t G image lent) 0 ps
   unfolding judged
   judged_each e = chosen (whole_number t G (length image) (length ps)) _ _ e
 
@@ -97,9 +99,9 @@ module _ (t : Twofish) (G : Geometry) (image : List ℕ) (ps : List Patch) (lent
     where
       by :
           (b : Bool) → eqb (whole_number t G (length image) (length ps)) 0 ≡ b
-          → (cond b (first_refused (item_number t G image lent) 0 ps) record { number = whole_number t G (length image) (length ps); place = 0 }).number ≡ 0
+          → (cond b (first_refused (item_number t G image lent) (item_held t G image lent) 0 ps) record { number = whole_number t G (length image) (length ps); place = 0; held = nowhere }).number ≡ 0
           → (whole_number t G (length image) (length ps) ≡ 0) × ((j : ℕ) → j < length ps → item_number t G image lent (get_or ps j none) ≡ 0)
-      by true z e = (eqb-true _ _ z, all_taken (item_number t G image lent) 0 ps e)
+      by true z e = (eqb-true _ _ z, all_taken (item_number t G image lent) (item_held t G image lent) 0 ps e)
       by false z e = absurd (eqb-false _ _ z e)
 
 -- a patch that is taken has its bytes among those that are lent, and is taken by itself
@@ -122,10 +124,11 @@ written-length p lent h = length-take-le p.length (drop p.start lent) (omega (ar
 
 -- the answer to a list that is refused
 pub refused_listed :
-    (e : Refused) (j : Judged) (c : ℕ) → j ≡ record { number = refusal_number e.refusal; place = e.place }
-    → record { number = refusal_number e.refusal; count = 0; place = e.place } ≡ list_answer j c
+    (e : Refused) (j : Judged) (c : ℕ) → j ≡ record { number = refusal_number e.refusal; place = e.place; held = refusal_location e.refusal }
+    → listed (Err e) ≡ list_answer j c
 unfolding list_answer
 refused_listed e j c h =
     let n : ℕ = refusal_number e.refusal in
-    ap (λ (k : ℕ). record { number = n; count = k; place = e.place }) (sym (left_out n c 0 (λ z. never_done e.refusal (sym z))))
+    let l : Location = refusal_location e.refusal in
+    ap (λ (k : ℕ). record { number = n; count = k; place = e.place; bank = l.bank; page = l.page }) (sym (left_out n c 0 (λ z. never_done e.refusal (sym z))))
     ∙ ap (λ (k : Judged). list_answer k c) (sym h)

@@ -5,12 +5,12 @@ use Rattle.std.proofs.lemmas.List.Elements.{All-nil, All-cons, All-map}
 use Rattle.spans.proofs.BytesLaws.{AllBytes, AllBytes-take, AllBytes-drop}
 use Rattle.twofish.specs.declared.Twofish.{Twofish}
 use Rattle.twofish.specs.declared.Answer.{Answer}
-use Rattle.twofish.specs.Answers.{answer}
+use Rattle.twofish.specs.Answers.{nowhere, told, answer_at}
 use Rattle.block.specs.Block.{Schedule}
 use Rattle.sealed.specs.declared.Geometry.{Geometry}
-use Rattle.sealed.specs.Image.{patch_count}
+use Rattle.sealed.specs.Image.{seen_at, other_place, patch_count}
 use Rattle.sealed.proofs.PatchFacts.{bytes_after}
-use Rattle.history.specs.Calls.{Call, WritesBytes, Outcome, outcome, outcomes, after, at_end, on_image, image_number, image_next, count}
+use Rattle.history.specs.Calls.{Call, WritesBytes, Outcome, outcome, outcomes, after, at_end, on_image, image_number, image_place, image_next, count}
 use Rattle.history.specs.Calls as calls
 use Rattle.history.specs.Pages.{on_pages, sealing, Readable, pages_of}
 use Rattle.history.proofs.Demand.{readable_image}
@@ -51,9 +51,9 @@ module _ (t : Twofish) (G : Geometry) (s : Schedule t) (lent : List ℕ) where
     unfolding after image_number image_next as_call
     call_after = ap (λ (n : ℕ). cond (eqb n 0) (patched t G lent p image) image) (sym (taken_number t G image lent p e))
 
-    call_answer : (outcome (on_image t G) (as_call lent p) image).answer ≡ record { number = 0; count = patch_count p.offset }
-    unfolding outcome answer image_number as_call count
-    call_answer = ap (λ (n : ℕ). answer n (patch_count p.offset)) (sym (taken_number t G image lent p e))
+    call_answer : (outcome (on_image t G) (as_call lent p) image).answer ≡ told 0 (patch_count p.offset) nowhere
+    unfolding outcome answer_at image_number image_place as_call count
+    call_answer = ap (λ (n : ℕ). answer_at (other_place (seen_at t G image p.bank p.offset)) n (patch_count p.offset)) (sym (taken_number t G image lent p e))
 
   -- what is left of a list that is taken, after its first patch
   module _ (p : Patch) (ps : List Patch) (image : List ℕ) (b : AllBytes image) (taken : AllTaken image (p ∷ ps)) where

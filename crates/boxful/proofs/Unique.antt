@@ -3,7 +3,7 @@ use Rattle.std.proofs.Common.{◌≡◌, ℕ, sym, ap, ap₂, ◌∙◌}
 use Rattle.std.specs.Prelude.{Result, Ok, Err}
 use Rattle.words.proofs.Outcome.{OneResult, OneOutcome}
 use Rattle.twofish.specs.declared.Refusal.{Refusal}
-use Rattle.twofish.proofs.AnswerLaws.{never_done, refusal_number-injective}
+use Rattle.twofish.proofs.AnswerLaws.{never_done, refusal-injective}
 use Rattle.boxful.specs.declared.Refused.{Refused}
 use Rattle.boxful.specs.declared.ListAnswer.{ListAnswer}
 use Rattle.boxful.specs.Boxful.{listed}
@@ -17,7 +17,8 @@ listed-injective (Ok m) (Err e) h = absurd (never_done e.refusal (ap (λ (a : Li
 listed-injective (Err d) (Ok n) h = absurd (never_done d.refusal (sym (ap (λ (a : ListAnswer). a.number) h)))
 listed-injective (Err d) (Err e) h =
     ap₂ (λ (x : Refusal) (p : ℕ). Err record { refusal = x; place = p })
-    (refusal_number-injective d.refusal e.refusal (ap (λ (a : ListAnswer). a.number) h)) (ap (λ (a : ListAnswer). a.place) h)
+    (refusal-injective d.refusal e.refusal (ap (λ (a : ListAnswer). a.number) h) (ap (λ (a : ListAnswer). record { bank = a.bank; page = a.page }) h))
+    (ap (λ (a : ListAnswer). a.place) h)
 
 pub list_answer_from_one : OneResult answer.Post
 list_answer_from_one κ a r r' s s' p p' = p ∙ sym p'

@@ -3,14 +3,14 @@
 
 ghost use Rattle.std.specs.Prelude.{◌≡◌, length, MatchResult};
 ghost use Rattle.spans.specs.Refusals.{leaves};
-ghost use Rattle.twofish.specs.Answers.{outcome_number, refusal_number};
+ghost use Rattle.twofish.specs.Answers.{nowhere, answer_at, refusal_number, refusal_location, answered};
 ghost use Rattle.block.specs.Block.{enciphered, deciphered};
-ghost use Rattle.sealed.specs.Image.{patched_in, patch_count};
+ghost use Rattle.sealed.specs.Image.{seen_at, other_place, patched_in, patch_count};
 ghost use Rattle.boxful.specs.declared.Patch.{Patch};
 ghost use Rattle.boxful.specs.Boxful.{written, item_number, judged, all_patched, all_counted, list_answer, listed};
 
 use sealed::Geometry;
-use twofish::{Refusal, Twofish};
+use twofish::{Location, Refusal, Twofish};
 
 // The most patches of a list.
 pub const MOST: usize = 64;
@@ -32,13 +32,15 @@ pub struct Refused {
     pub place: u32,
 }
 
-// What a C caller is answered to a list.
+// What a C caller is answered to a list: as to a call, and the place of the first patch that is refused.
 #[repr(C)]
 #[derive(Clone, Copy, Debug, PartialEq, Eq)]
 pub struct ListAnswer {
     pub number: u32,
     pub count: u32,
     pub place: u32,
+    pub bank: u32,
+    pub page: u32,
 }
 
 impl From<Result<u32, Refused>> for ListAnswer {
@@ -50,12 +52,19 @@ impl From<Result<u32, Refused>> for ListAnswer {
                 number: 0,
                 count,
                 place: 0,
+                bank: 0,
+                page: 0,
             },
-            Err(refused) => ListAnswer {
-                number: refused.refusal.into(),
-                count: 0,
-                place: refused.place,
-            },
+            Err(refused) => {
+                let Location { bank, page } = refused.refusal.location();
+                ListAnswer {
+                    number: refused.refusal.into(),
+                    count: 0,
+                    place: refused.place,
+                    bank,
+                    page,
+                }
+            }
         }
     }
 }
@@ -68,7 +77,7 @@ fn judge_patch(
     patch: Patch,
     bytes: &[u8],
 ) -> Result<(), Refusal>
-    ensures { outcome_number result ≡ item_number t geometry image.now bytes.now patch }
+    ensures { answered result ≡ answer_at (other_place (seen_at t geometry image.now patch.bank patch.offset)) (item_number t geometry image.now bytes.now patch) 0 }
 {
     let length = patch.length as usize;
     if patch.start as usize + length > bytes.len() {
@@ -86,7 +95,7 @@ fn judge(
     patches: &[Patch],
     bytes: &[u8],
 ) -> Result<(), Refused>
-    ensures { MatchResult result (λ _. judged t geometry image.now patches.now bytes.now ≡ record { number = 0; place = 0 }) (λ e. judged t geometry image.now patches.now bytes.now ≡ record { number = refusal_number e.refusal; place = e.place }) }
+    ensures { MatchResult result (λ _. judged t geometry image.now patches.now bytes.now ≡ record { number = 0; place = 0; held = nowhere }) (λ e. judged t geometry image.now patches.now bytes.now ≡ record { number = refusal_number e.refusal; place = e.place; held = refusal_location e.refusal }) }
 {
     if let Err(refusal) = sealed::judge(t, geometry, image.len()) {
         return Err(Refused { refusal, place: 0 });

@@ -1,17 +1,17 @@
 -- Demand 3: any series of calls on a sealed image goes as on its plain image, and leaves the sealing afresh of that.
 use Rattle.std.proofs.Common.{◌≡◌, ◌≢◌, ℕ, true, List, length, All, sym, ap, subst, ◌∙◌}
 use Rattle.twofish.specs.declared.Twofish.{Twofish}
-use Rattle.twofish.specs.Answers.{answer}
+use Rattle.twofish.specs.Answers.{answer_at}
 use Rattle.block.specs.Block.{Schedule}
 use Rattle.spans.proofs.BytesLaws.{AllBytes}
 use Rattle.sealed.specs.declared.Geometry.{Geometry}
 use Rattle.sealed.specs.Image.{in_range, image_length}
 use Rattle.history.specs.Calls.{Call, WritesBytes, on_image, outcome, outcomes, at_end}
 use Rattle.history.specs.Slots.{Slot, on_slots, image_of, Slots, slots_of}
-use Rattle.history.specs.Pages.{on_pages, sealing, Pages, Readable, pages_of}
+use Rattle.history.specs.Pages.{pages_number, on_pages, sealing, Pages, Readable, pages_of}
 use Rattle.history.proofs.RunLaws.{Goes, goes, All-outcomes}
 use Rattle.history.proofs.ImageSteps.{image_follows}
-use Rattle.history.proofs.PageSteps.{as_slots, pages_follow, image_of-pages, slots-pages, never_eight}
+use Rattle.history.proofs.PageSteps.{as_slots, pages_follow, image_of-pages, slots-pages, never}
 use Rattle.history.proofs.ViewLaws.{image_of-slots_of}
 use Rattle.history.proofs.ReadableLaws.{sealing-pages_of, sealing-readable}
 
@@ -61,11 +61,16 @@ module _ (t : Twofish) (G : Geometry) (s : Schedule t) (calls : List Call) (byte
     pub all_readable : Pages G (at_end (on_pages t G) calls pages)
     all_readable = (on_any_pages pages h).kept
 
-    -- and no call is refused by 8
+    -- and no call is refused by 8, nor by 11
+    none_by : (n : ℕ) → ((c : Call) → pages_number t G c ≢ n) → All (λ o. o.answer.number ≢ n) (outcomes (on_image t G) calls (sealing t G pages))
+    unfolding outcome answer_at
+    none_by n none = subst (All (λ o. o.answer.number ≢ n)) (sym plain_outcomes) (All-outcomes (on_pages t G) (λ o. o.answer.number ≢ n) (λ c y. none c) calls pages)
+
     pub no_eight : All (λ o. o.answer.number ≢ 8) (outcomes (on_image t G) calls (sealing t G pages))
-    unfolding outcome answer
-    no_eight =
-        subst (All (λ o. o.answer.number ≢ 8)) (sym plain_outcomes) (All-outcomes (on_pages t G) (λ o. o.answer.number ≢ 8) (λ c y. never_eight t G c) calls pages)
+    no_eight = none_by 8 (λ c. (never t G c).0)
+
+    pub no_eleven : All (λ o. o.answer.number ≢ 11) (outcomes (on_image t G) calls (sealing t G pages))
+    no_eleven = none_by 11 (λ c. (never t G c).1)
 
   -- so on any image whose every record is of its place, which is the sealing afresh of its pages
   module _ (image : List ℕ) (h : Readable t G image) where

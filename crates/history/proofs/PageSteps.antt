@@ -1,24 +1,31 @@
 -- One call on slots that are all pages goes as on the list of the pages.
-use Rattle.std.proofs.Common.{◌≡◌, ◌≢◌, ℕ, suc, ◌/◌, ◌%◌, ◌<◌, Bool, List, [], ◌∷◌, ◌++◌, length, take, drop, set, get_or, map, refl, sym, ap, subst, ◌∙◌, arith, length-set}
+use Rattle.std.proofs.Common.{◌≡◌, ◌≢◌, ℕ, suc, ◌/◌, ◌%◌, ◌<◌, List, [], ◌∷◌, ◌++◌, length, take, drop, set, get_or, map, refl, sym, ap, subst, ◌∙◌, arith, length-set}
 use Rattle.std.proofs.lemmas.List.{map-set, get_or-map, length-map}
 use Rattle.spans.specs.Bytes.{Bytes}
 use Rattle.spans.specs.Parts.{splice}
-use Rattle.spans.specs.Refusals.{◌when◌, given}
-use Rattle.spans.proofs.RefusalLaws.{given_other, given_last}
+use Rattle.spans.specs.Refusals.{given}
+use Rattle.spans.proofs.RefusalLaws.{never_given, given_last}
 use Rattle.twofish.specs.declared.Twofish.{Twofish}
 use Rattle.block.specs.Block.{enciphered}
 use Rattle.sealed.specs.declared.Geometry.{Geometry}
 use Rattle.sealed.specs.Record.{filled, sealed}
-use Rattle.sealed.specs.Image.{slot, image_refusals, refusals, seal_number}
+use Rattle.sealed.specs.Image.{slot, image_refusals, refusals, look_refusals, seal_number}
 use Rattle.sealed.proofs.ImageLaws.{There, slot-within, takes}
 use Rattle.sealed.proofs.PageLaws.{filled-bytes, patched-bytes}
 use Rattle.history.specs.Calls.{Call, Seal, Patch, Read, WritesBytes, before_look}
 use Rattle.history.specs.Order.{in_order, Each}
-use Rattle.history.specs.Slots.{Slot, Page, Raw, is_raw, held, slot_of, slot_access, slots_number, slots_bytes, slots_next, on_slots, slot_record, image_of, Right, Slots}
+use Rattle.history.specs.Slots.{Slot, Page, Raw, held, slot_of, slot_whose, slot_seen, slot_access, slots_number, slots_place, slots_bytes, slots_next, on_slots, slot_record, image_of, Right, Slots}
 use Rattle.history.specs.Pages.{pages_number, page_at, plain_bytes, applied, on_pages, sealing, Pages}
 use Rattle.history.proofs.OrderLaws.{Each-at, Each-set}
 use Rattle.history.proofs.RunLaws.{Follows}
 use Rattle.history.proofs.PlaceLaws.{reaches}
+
+-- 8 and 11 are none of the refusals before a look, so they are none of those on pages
+pub never : (t : Twofish) (G : Geometry) (c : Call) → (pages_number t G c ≢ 8) × (pages_number t G c ≢ 11)
+unfolding pages_number seal_number before_look refusals image_refusals
+never t G (Seal bank page plain) = (never_given 8 _ (λ z. omega (arith, z)) tt, never_given 11 _ (λ z. omega (arith, z)) tt)
+never t G (Patch bank offset bytes) = (never_given 8 _ (λ z. omega (arith, z)) tt, never_given 11 _ (λ z. omega (arith, z)) tt)
+never t G (Read bank offset out) = (never_given 8 _ (λ z. omega (arith, z)) tt, never_given 11 _ (λ z. omega (arith, z)) tt)
 
 -- the slots of pages
 abbrev pub as_slots : List (List ℕ) → List Slot
@@ -75,20 +82,21 @@ module _ (t : Twofish) (G : Geometry) where
     -- a patch or a read
     module _ (bank offset n : ℕ) where
       same_access : slot_access t G (as_slots pages) bank offset n ≡ given (before_look t G bank offset n)
-      unfolding slot_access before_look refusals image_refusals given
+      unfolding slot_access slot_seen slot_whose look_refusals before_look refusals image_refusals given
       same_access =
-          given_last (before_look t G bank offset n) (8 when is_raw (slot_of G bank (offset / 256) (as_slots pages)) ∷ []) []
-          (λ e. ap (λ (x : Slot). given (8 when is_raw x ∷ [])) (slot_of-pages bank (offset / 256) (reaches t G bank offset n e).there))
+          given_last (before_look t G bank offset n) (look_refusals (slot_seen t G (as_slots pages) bank offset)) []
+          (λ e. ap (λ (x : Slot). given (look_refusals (slot_whose t bank (offset / 256) x))) (slot_of-pages bank (offset / 256) (reaches t G bank offset n e).there))
 
       same_page : given (before_look t G bank offset n) ≡ 0 → held (slot_of G bank (offset / 256) (as_slots pages)) ≡ page_at G bank offset pages
       unfolding page_at
       same_page e = ap held (slot_of-pages bank (offset / 256) (reaches t G bank offset n e).there)
 
     pub pages_follow : (c : Call) → WritesBytes c → Follows (on_slots t G) (on_pages t G) as_slots (Pages G) c pages
-    unfolding WritesBytes slots_number slots_bytes slots_next pages_number page_at plain_bytes applied before_look
+    unfolding WritesBytes slots_number slots_place slots_bytes slots_next pages_number page_at plain_bytes applied before_look
     pages_follow (Seal bank page plain) b =
         record {
           number = refl;
+          place = λ e. refl;
           bytes = λ e. refl;
           next = λ e. sym (map-set (λ page. Page page) pages (slot G bank page) (filled plain));
           keeps = λ e. let k = takes e in set-page bank page k.there (filled plain) (filled-bytes plain k.fits b);
@@ -96,6 +104,7 @@ module _ (t : Twofish) (G : Geometry) where
     pages_follow (Patch bank offset bytes) b =
         record {
           number = same_access bank offset (length bytes);
+          place = λ e. absurd ((never t G (Patch bank offset bytes)).1 e);
           bytes = λ e. refl;
           next =
               λ e.
@@ -109,18 +118,8 @@ module _ (t : Twofish) (G : Geometry) where
     pages_follow (Read bank offset out) b =
         record {
           number = same_access bank offset (length out);
+          place = λ e. absurd ((never t G (Read bank offset out)).1 e);
           bytes = λ e. ap (λ (l : List ℕ). take (length out) (drop (offset % 256) l)) (same_page bank offset (length out) e);
           next = λ e. refl;
           keeps = λ e. h;
         }
-
--- 8 is none of the refusals before a look
-not_eight : (t : Twofish) (G : Geometry) (long : ℕ) (placed fits : Bool) → given (refusals t G long placed fits) ≢ 8
-unfolding refusals image_refusals given
-not_eight t G long placed fits e = let none = (given_other 8 (refusals t G long placed fits) [] tt e).1 in omega (arith, none)
-
-pub never_eight : (t : Twofish) (G : Geometry) (c : Call) → pages_number t G c ≢ 8
-unfolding pages_number seal_number before_look
-never_eight t G (Seal bank page plain) e = not_eight t G _ _ _ e
-never_eight t G (Patch bank offset bytes) e = not_eight t G _ _ _ e
-never_eight t G (Read bank offset out) e = not_eight t G _ _ _ e

@@ -6,10 +6,11 @@ use Rattle.twofish.specs.declared.Refusal.{Refusal}
 use Rattle.twofish.specs.declared.Twofish.{Twofish}
 use Rattle.twofish.specs.Answers.{counted}
 use Rattle.sealed.specs.declared.Geometry.{Geometry}
+use Rattle.sealed.specs.Image.{access_answer}
 use Rattle.sealed.proofs.seal.Reads as seal
 use Rattle.sealed.proofs.patch.Reads as patch
 use Rattle.sealed.proofs.read.Reads as read
-use Rattle.history.specs.Calls.{Call, Seal, Patch, Read, Outcome, count, lent, outcome, after, image_number, image_bytes, image_next, on_image}
+use Rattle.history.specs.Calls.{Call, Seal, Patch, Read, Outcome, count, lent, outcome, after, image_number, image_place, image_bytes, image_next, on_image}
 
 -- a promise P, over lifetimes, arguments, a result and the parameters at exit, is that of a call: its answer and the bytes lent for it are what comes of
 -- the call, and the image at exit is that after it
@@ -32,18 +33,18 @@ come a l = record { answer = a; out = l }
 pub seal-promised :
     PromiseOf seal.Post (λ κ a. a.0) (λ κ a. a.1.0) (λ κ a. Seal a.1.1.1.0 a.1.1.1.1.0 a.1.1.1.1.1.0.now) (λ κ a. a.1.1.0.now) (λ κ s. [])
     (λ κ a s. s.1.1.0.now)
-unfolding leaves outcome after count lent image_number image_bytes image_next
+unfolding leaves outcome after count lent image_number image_place image_bytes image_next
 seal-promised κ a r s p = (ap₂ come p.0 (either _ []), p.1)
 
 pub patch-promised :
     PromiseOf patch.Post (λ κ a. a.0) (λ κ a. a.1.0) (λ κ a. Patch a.1.1.1.0 a.1.1.1.1.0 a.1.1.1.1.1.0.now) (λ κ a. a.1.1.0.now) (λ κ s. [])
     (λ κ a s. s.1.1.0.now)
-unfolding leaves outcome after count lent image_number image_bytes image_next
+unfolding access_answer leaves outcome after count lent image_number image_place image_bytes image_next
 patch-promised κ a r s p = (ap₂ come p.0 (either _ []), p.1)
 
 -- read is lent the image to look at, so that it stays
 pub read-promised :
     PromiseOf read.Post (λ κ a. a.0) (λ κ a. a.1.0) (λ κ a. Read a.1.1.1.0 a.1.1.1.1.0 a.1.1.1.1.1.0.now) (λ κ a. a.1.1.0.now)
     (λ κ s. s.1.1.1.1.1.0.now) (λ κ a s. a.1.1.0.now)
-unfolding leaves outcome after count lent image_number image_bytes image_next
+unfolding access_answer leaves outcome after count lent image_number image_place image_bytes image_next
 read-promised κ a r s p = (ap₂ come p.0 p.1, either _ a.1.1.0.now)

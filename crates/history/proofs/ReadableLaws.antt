@@ -2,7 +2,6 @@
 -- alone.
 use Rattle.std.proofs.Common.{◌≡◌, ℕ, Bool, cond, zero, suc, ◌+◌, ◌*◌, ◌/◌, ◌%◌, ◌<◌, ◌≤◌, true, List, [], ◌∷◌, length, take, drop, refl, sym, ap, ap₂, subst, ◌∙◌, arith, lit<}
 use Rattle.std.proofs.lemmas.List.{drop-drop}
-use borrow.Author.Tests.{not-false}
 use lib.Seq.{take_at, drop_at}
 use Rattle.std.proofs.Math.Nat.{mod-lt, div-add-mod, div-lt_iff_lt-mul, mul_comm}
 use Rattle.spans.specs.Bytes.{Bytes}
@@ -14,14 +13,15 @@ use Rattle.sealed.specs.Record.{sealed, looked, page_of}
 use Rattle.sealed.specs.Image.{in_range, slot, record_at}
 use Rattle.block.proofs.ThereAndBack.{enciphered-length}
 use Rattle.sealed.proofs.ImageLaws.{There, bank_byte, page_byte}
+use Rattle.sealed.proofs.AccessLaws.{own_looked}
 use Rattle.sealed.proofs.RecordLaws.{sealed-length}
 use Rattle.sealed.proofs.OpenLaws.{filled-page}
 use Rattle.sealed.proofs.PageLaws.{page_of-sealed, sealed-bytes}
 use Rattle.history.specs.Order.{in_order, Each}
-use Rattle.history.specs.Slots.{Slot, Page, Raw, is_raw, image_of, Slots, seen, view, slots_of}
+use Rattle.history.specs.Slots.{Slot, Page, Raw, slot_whose, image_of, Slots, seen, view, slots_of}
 use Rattle.history.specs.Pages.{sealing, Pages, Readable, first_pages, pages_of}
 use Rattle.history.proofs.OrderLaws.{Each-map}
-use Rattle.history.proofs.SlotLaws.{image_of-length, looked-there}
+use Rattle.history.proofs.SlotLaws.{image_of-length, whose-there}
 use Rattle.history.proofs.PageSteps.{as_slots, image_of-pages, slots-pages, pages-slots, slot_of-pages}
 use Rattle.history.proofs.ViewLaws.{image_of-slots_of}
 
@@ -84,7 +84,7 @@ module _ (t : Twofish) (G : Geometry) (s : Schedule t) where
 
   -- the reverse: the sealing afresh of any pages is readable
   pub sealing-readable : in_range G ≡ true → (pages : List (List ℕ)) → Pages G pages → Readable t G (sealing t G pages)
-  unfolding sealing
+  unfolding sealing slot_whose
   sealing-readable g pages h =
       let same = image_of-pages t G pages in
       let slots = slots-pages t G pages h in
@@ -97,7 +97,8 @@ module _ (t : Twofish) (G : Geometry) (s : Schedule t) where
             λ bank page hb hp.
             let there : There G bank page = record { geometry = g; banked = hb; paged = hp } in
             ap (λ (l : List ℕ). looked (deciphered t) bank page (record_at G bank page l)) (sym same)
-            ∙ not-false _ (looked-there t G s (as_slots pages) slots bank page there ∙ ap is_raw (slot_of-pages t G pages h bank page there));
+            ∙ own_looked (deciphered t) bank page _
+            (whose-there t G s (as_slots pages) slots bank page there ∙ ap (slot_whose t bank page) (slot_of-pages t G pages h bank page there));
       }
 
   -- and its pages are those that were sealed

@@ -3,7 +3,9 @@ use Rattle.std.proofs.Common.{◌≡◌, ℕ, List, [], ◌∷◌, eqb, cond, Al
 use Rattle.std.proofs.lemmas.List.Elements.{All-nil, All-cons, All-head, All-tail}
 use borrow.Author.Tests.{eqb-true}
 use Rattle.spans.specs.Refusals.{leaves}
-use Rattle.twofish.specs.Answers.{answer}
+use Rattle.twofish.specs.declared.Answer.{Answer}
+use Rattle.twofish.specs.Answers.{answer_at}
+use Rattle.sealed.proofs.OutcomeLaws.{answer_at-same}
 use Rattle.history.specs.Calls.{Call, WritesBytes, Acts, Outcome, count, lent, outcome, after, outcomes, at_end}
 
 -- by whether a call is done
@@ -24,6 +26,7 @@ module _ {S T : Type 0} (A : Acts S) (B : Acts T) (f : T → S) (P : T → Type 
   -- a call goes on f y as it goes on y
   pub record Follows (c : Call) (y : T) : Type 0 where
     pub number : A.number c (f y) ≡ B.number c y
+    pub place : B.number c y ≡ 11 → A.place c (f y) ≡ B.place c y
     pub bytes : B.number c y ≡ 0 → A.bytes c (f y) ≡ B.bytes c y
     pub next : B.number c y ≡ 0 → A.next c (f y) ≡ f (B.next c y)
     pub keeps : B.number c y ≡ 0 → P (B.next c y)
@@ -32,7 +35,8 @@ module _ {S T : Type 0} (A : Acts S) (B : Acts T) (f : T → S) (P : T → Type 
     alike : outcome A c (f y) ≡ outcome B c y
     unfolding outcome leaves
     alike =
-        ap₂ (λ (n : ℕ) (l : List ℕ). record { answer = answer n (count c); out = l }) h.number
+        ap₂ (λ (a : Answer) (l : List ℕ). record { answer = a; out = l })
+        (ap (λ (n : ℕ). answer_at (A.place c (f y)) n (count c)) h.number ∙ answer_at-same _ _ (B.number c y) (count c) h.place)
         (ap (λ (n : ℕ). leaves n (A.bytes c (f y)) (lent c)) h.number ∙ when_done (eqb (B.number c y) 0) _ _ (lent c) (λ e. h.bytes (eqb-true _ _ e)))
 
     made : after A c (f y) ≡ f (after B c y)

@@ -1,5 +1,5 @@
 -- Laws of the sealing afresh of slots: its length, its records, a page sealed into it, and what a look and an opening say of a record of it.
-use Rattle.std.proofs.Common.{◌≡◌, ℕ, ◌*◌, ◌/◌, ◌%◌, ◌<◌, true≢false, true, false, not, List, [], ◌++◌, length, set, replicate, sym, ap, ap₂, subst, ◌∙◌, arith, length-set}
+use Rattle.std.proofs.Common.{◌≡◌, ℕ, ◌*◌, ◌/◌, ◌%◌, ◌<◌, true≢false, true, Bool, cond, List, [], ◌++◌, length, take, set, replicate, refl, sym, ap, ap₂, subst, ◌∙◌, arith, length-set}
 use Rattle.spans.specs.Bytes.{Bytes}
 use Rattle.spans.specs.Parts.{splice}
 use Rattle.twofish.specs.declared.Twofish.{Twofish}
@@ -7,14 +7,16 @@ use Rattle.block.specs.Block.{enciphered, deciphered, Schedule}
 use Rattle.block.proofs.ThereAndBack.{enciphered-length}
 use Rattle.sealed.specs.declared.Geometry.{Geometry}
 use Rattle.sealed.specs.Cbc.{cbc}
-use Rattle.sealed.specs.Record.{place_block, filled, sealed, looked, page_of}
+use Rattle.sealed.specs.declared.Seen.TheVariants.{Own, Other, NoPlace}
+use Rattle.sealed.specs.Record.{place_block, filled, sealed, looked, names_place, place_named, whose, page_of}
 use Rattle.sealed.specs.Image.{slot, image_length, record_at, sealed_in}
 use Rattle.sealed.proofs.ImageLaws.{There, slot-within, slot-bank, slot-page, bank_byte, page_byte}
+use Rattle.sealed.proofs.AccessLaws.{own_looked}
 use Rattle.sealed.proofs.RecordLaws.{sealed-length}
 use Rattle.sealed.proofs.OpenLaws.{filled-page}
 use Rattle.sealed.proofs.PageLaws.{page_of-sealed, looked-sealed}
 use Rattle.history.specs.Order.{Each}
-use Rattle.history.specs.Slots.{Slot, Page, Raw, is_raw, held, slot_of, slot_record, image_of, Right, Slots}
+use Rattle.history.specs.Slots.{Slot, Page, Raw, held, slot_of, slot_whose, slot_record, image_of, Right, Slots}
 use Rattle.history.proofs.OrderLaws.{Each-at, Each-set, Each-map, in_order-length, record-in_order, splice-in_order}
 
 module _ (t : Twofish) (G : Geometry) (s : Schedule t) where
@@ -82,23 +84,26 @@ module _ (t : Twofish) (G : Geometry) (s : Schedule t) where
             ap (page_of (deciphered t)) (at_place (λ (m n : ℕ). sealed (enciphered t) m n plain))
             ∙ page_of-sealed t bank page s plain (bank_byte there) (page_byte there) (omega (arith, b.long)) b.byte ∙ filled-page plain b.long
 
-      -- a record is that of its place exactly where its slot holds a page, and holds that page
-      looked-slot : (x : Slot) → Right t G at x → not (looked (deciphered t) bank page (slot_record t G at x)) ≡ is_raw x
-      unfolding Right slot_record
-      looked-slot (Page plain) b = ap not (looked-page plain b)
-      looked-slot (Raw bytes) r = ap not (sym (at_place (λ (m n : ℕ). looked (deciphered t) m n bytes)) ∙ r.1)
+      -- a look at a record finds its place's own exactly where its slot holds a page, and the record holds that page
+      whose-slot : (x : Slot) → Right t G at x → whose (deciphered t) bank page (slot_record t G at x) ≡ slot_whose t bank page x
+      unfolding Right slot_record whose slot_whose
+      whose-slot (Page plain) b =
+          let r : List ℕ = slot_record t G at (Page plain) in
+          ap (λ (own : Bool). cond own Own (cond (names_place (deciphered t (take 16 r))) (Other (place_named (deciphered t (take 16 r)))) NoPlace)) (looked-page plain b)
+      whose-slot (Raw bytes) r = refl
 
-      opened-slot : (x : Slot) → Right t G at x → is_raw x ≡ false → (page_of (deciphered t) (slot_record t G at x) ≡ held x) × Bytes 256 (held x)
-      unfolding Right
+      opened-slot : (x : Slot) → Right t G at x → slot_whose t bank page x ≡ Own → (page_of (deciphered t) (slot_record t G at x) ≡ held x) × Bytes 256 (held x)
+      unfolding Right slot_whose
       opened-slot (Page plain) b e = (opened-page plain b, b)
-      opened-slot (Raw bytes) r e = absurd (true≢false e)
+      opened-slot (Raw bytes) r e =
+          absurd
+          (true≢false (sym (own_looked (deciphered t) bank page bytes e) ∙ sym (at_place (λ (m n : ℕ). looked (deciphered t) m n bytes)) ∙ r.1))
 
-      pub looked-there : not (looked (deciphered t) bank page (record_at G bank page (image_of t G slots))) ≡ is_raw (slot_of G bank page slots)
-      looked-there =
-          ap (λ (r : List ℕ). not (looked (deciphered t) bank page r)) record-there ∙ looked-slot (slot_of G bank page slots) right-there
+      pub whose-there : whose (deciphered t) bank page (record_at G bank page (image_of t G slots)) ≡ slot_whose t bank page (slot_of G bank page slots)
+      whose-there = ap (whose (deciphered t) bank page) record-there ∙ whose-slot (slot_of G bank page slots) right-there
 
       pub opened-there :
-          is_raw (slot_of G bank page slots) ≡ false
+          slot_whose t bank page (slot_of G bank page slots) ≡ Own
           → (page_of (deciphered t) (record_at G bank page (image_of t G slots)) ≡ held (slot_of G bank page slots)) × Bytes 256 (held (slot_of G bank page slots))
       opened-there e =
           let o = opened-slot (slot_of G bank page slots) right-there e in (ap (page_of (deciphered t)) record-there ∙ o.0, o.1)

@@ -2,11 +2,12 @@
 use Rattle.std.specs.Prelude.{List, [], ◌∷◌, ℕ, ◌<◌, eqb, cond, length, get_or}
 use Rattle.spans.specs.Refusals.{Line, leaves}
 use Rattle.twofish.specs.declared.Answer.{Answer}
+use Rattle.twofish.specs.declared.Location.{Location}
 use Rattle.twofish.specs.declared.Twofish.{Twofish}
-use Rattle.twofish.specs.Answers.{answer}
+use Rattle.twofish.specs.Answers.{nowhere, answer_at}
 use Rattle.block.specs.Block.{enciphered, deciphered}
 use Rattle.sealed.specs.declared.Geometry.{Geometry}
-use Rattle.sealed.specs.Image.{image_length, offset_reached, within_page, refusals, seal_number, access_number, patch_count, sealed_in, patched_in, read_from}
+use Rattle.sealed.specs.Image.{image_length, offset_reached, within_page, refusals, seal_number, seen_at, other_place, access_number, patch_count, sealed_in, patched_in, read_from}
 
 -- seal takes a bank, a page and plain bytes, patch a bank, an offset and bytes, and read a bank, an offset and the bytes lent for its answer
 pub data Call : Type 0 where
@@ -32,9 +33,11 @@ WritesBytes (Seal bank page plain) = (i : ℕ) → get_or plain i 0 < 256
 WritesBytes (Patch bank offset bytes) = (i : ℕ) → get_or bytes i 0 < 256
 WritesBytes (Read bank offset out) = Unit {0}
 
--- calls on a state: the number of a call's refusal, 0 where it is done; and then the bytes that it hands out, and the next state
+-- calls on a state: the number of a call's refusal, 0 where it is done, and the other place whose record its look found; and where it is done the bytes
+-- that it hands out, and the next state
 pub record Acts (S : Type 0) : Type 0 where
   pub number : Call → S → ℕ
+  pub place : Call → S → Location
   pub bytes : Call → S → List ℕ
   pub next : Call → S → S
 
@@ -46,7 +49,7 @@ pub record Outcome : Type 0 where
 module _ {S : Type 0} (acts : Acts S) where
   -- a refusal counts 0 and changes no lent byte
   unfoldable pub outcome : Call → S → Outcome
-  outcome c s = record { answer = answer (acts.number c s) (count c); out = leaves (acts.number c s) (acts.bytes c s) (lent c) }
+  outcome c s = record { answer = answer_at (acts.place c s) (acts.number c s) (count c); out = leaves (acts.number c s) (acts.bytes c s) (lent c) }
 
   -- the state after a call; a refusal leaves it as it was
   unfoldable pub after : Call → S → S
@@ -72,6 +75,11 @@ image_number t G (Seal bank page plain) image = seal_number t G (length image) b
 image_number t G (Patch bank offset bytes) image = access_number t G image bank offset (length bytes)
 image_number t G (Read bank offset out) image = access_number t G image bank offset (length out)
 
+unfoldable pub image_place : Twofish → Geometry → Call → List ℕ → Location
+image_place t G (Seal bank page plain) image = nowhere
+image_place t G (Patch bank offset bytes) image = other_place (seen_at t G image bank offset)
+image_place t G (Read bank offset out) image = other_place (seen_at t G image bank offset)
+
 unfoldable pub image_bytes : Twofish → Geometry → Call → List ℕ → List ℕ
 image_bytes t G (Seal bank page plain) image = []
 image_bytes t G (Patch bank offset bytes) image = []
@@ -83,4 +91,4 @@ image_next t G (Patch bank offset bytes) image = patched_in (enciphered t) (deci
 image_next t G (Read bank offset out) image = image
 
 abbrev pub on_image : Twofish → Geometry → Acts (List ℕ)
-on_image t G = record { number = image_number t G; bytes = image_bytes t G; next = image_next t G }
+on_image t G = record { number = image_number t G; place = image_place t G; bytes = image_bytes t G; next = image_next t G }

@@ -4,6 +4,7 @@ use Rattle.spans.specs.Bytes.{Bytes}
 use Rattle.spans.specs.Parts.{splice}
 use Rattle.spans.specs.Refusals.{given}
 use Rattle.twofish.specs.declared.Twofish.{Twofish}
+use Rattle.twofish.specs.Answers.{nowhere}
 use Rattle.block.specs.Block.{enciphered, deciphered}
 use Rattle.sealed.specs.declared.Geometry.{Geometry}
 use Rattle.sealed.specs.Record.{filled, sealed, looked, page_of}
@@ -11,7 +12,7 @@ use Rattle.sealed.specs.Image.{slot, image_length, record_at, seal_number}
 use Rattle.history.specs.Calls.{Call, Seal, Patch, Read, Acts, before_look}
 use Rattle.history.specs.Order.{in_order, Each}
 
--- the number of a call's refusal, whatever the pages hold: 8 is none of them
+-- the number of a call's refusal, whatever the pages hold: 8 and 11 are none of them
 unfoldable pub pages_number : Twofish → Geometry → Call → ℕ
 pages_number t G (Seal bank page plain) = seal_number t G (image_length G) bank page (length plain)
 pages_number t G (Patch bank offset bytes) = given (before_look t G bank offset (length bytes))
@@ -34,7 +35,7 @@ applied G (Patch bank offset bytes) pages = set pages (slot G bank (offset / 256
 applied G (Read bank offset out) pages = pages
 
 abbrev pub on_pages : Twofish → Geometry → Acts (List (List ℕ))
-on_pages t G = record { number = λ c pages. pages_number t G c; bytes = plain_bytes G; next = applied G }
+on_pages t G = record { number = λ c pages. pages_number t G c; place = λ c pages. nowhere; bytes = plain_bytes G; next = applied G }
 
 -- the sealing afresh of a plain image
 unfoldable pub sealing : Twofish → Geometry → List (List ℕ) → List ℕ

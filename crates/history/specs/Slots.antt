@@ -1,13 +1,17 @@
 -- The plain image by its slots, of which some may hold no page: what calls do to it, its sealing afresh, and the slots of any image.
-use Rattle.std.specs.Prelude.{◌≡◌, Bool, true, false, List, [], ◌∷◌, ◌++◌, ℕ, zero, suc, ◌*◌, ◌/◌, ◌%◌, cond, length, take, drop, set, get_or}
+use Rattle.std.specs.Prelude.{◌≡◌, false, List, [], ◌∷◌, ◌++◌, ℕ, zero, suc, ◌*◌, ◌/◌, ◌%◌, cond, length, take, drop, set, get_or}
 use Rattle.spans.specs.Bytes.{Bytes}
 use Rattle.spans.specs.Parts.{splice}
-use Rattle.spans.specs.Refusals.{◌when◌, given}
+use Rattle.spans.specs.Refusals.{given}
+use Rattle.twofish.specs.declared.Location.{Location}
 use Rattle.twofish.specs.declared.Twofish.{Twofish}
+use Rattle.twofish.specs.Answers.{nowhere}
 use Rattle.block.specs.Block.{enciphered, deciphered}
 use Rattle.sealed.specs.declared.Geometry.{Geometry}
-use Rattle.sealed.specs.Record.{filled, sealed, looked, page_of}
-use Rattle.sealed.specs.Image.{slot, image_length, seal_number}
+use Rattle.sealed.specs.declared.Seen.{Seen}
+use Rattle.sealed.specs.declared.Seen.TheVariants.{Own}
+use Rattle.sealed.specs.Record.{filled, sealed, looked, whose, page_of}
+use Rattle.sealed.specs.Image.{slot, image_length, look_refusals, other_place, seal_number}
 use Rattle.history.specs.Calls.{Call, Seal, Patch, Read, Acts, before_look}
 use Rattle.history.specs.Order.{in_order, Each}
 
@@ -16,11 +20,7 @@ pub data Slot : Type 0 where
   Page : List ℕ → Slot
   Raw : List ℕ → Slot
 
--- whether a slot holds no page, and the page that it holds
-abbrev pub is_raw : Slot → Bool
-is_raw (Page page) = false
-is_raw (Raw bytes) = true
-
+-- the page that a slot holds
 abbrev pub held : Slot → List ℕ
 held (Page page) = page
 held (Raw bytes) = []
@@ -29,14 +29,27 @@ held (Raw bytes) = []
 unfoldable pub slot_of : Geometry → ℕ → ℕ → List Slot → Slot
 slot_of G bank page slots = get_or slots (slot G bank page) (Raw [])
 
--- the number of read's and patch's refusal: 8 exactly where the slot holds no page, and no lower number is given
+-- whose record a look at a bank's page finds in a slot: the place's own exactly where the slot holds a page
+unfoldable pub slot_whose : Twofish → ℕ → ℕ → Slot → Seen
+slot_whose t bank page (Page plain) = Own
+slot_whose t bank page (Raw bytes) = whose (deciphered t) bank page bytes
+
+unfoldable pub slot_seen : Twofish → Geometry → List Slot → ℕ → ℕ → Seen
+slot_seen t G slots bank offset = slot_whose t bank (offset / 256) (slot_of G bank (offset / 256) slots)
+
+-- the number of read's and patch's refusal: 8 or 11 exactly where the slot holds no page, and no number before them is given
 unfoldable pub slot_access : Twofish → Geometry → List Slot → ℕ → ℕ → ℕ → ℕ
-slot_access t G slots bank offset n = given (before_look t G bank offset n ++ 8 when is_raw (slot_of G bank (offset / 256) slots) ∷ [])
+slot_access t G slots bank offset n = given (before_look t G bank offset n ++ look_refusals (slot_seen t G slots bank offset))
 
 unfoldable pub slots_number : Twofish → Geometry → Call → List Slot → ℕ
 slots_number t G (Seal bank page plain) slots = seal_number t G (image_length G) bank page (length plain)
 slots_number t G (Patch bank offset bytes) slots = slot_access t G slots bank offset (length bytes)
 slots_number t G (Read bank offset out) slots = slot_access t G slots bank offset (length out)
+
+unfoldable pub slots_place : Twofish → Geometry → Call → List Slot → Location
+slots_place t G (Seal bank page plain) slots = nowhere
+slots_place t G (Patch bank offset bytes) slots = other_place (slot_seen t G slots bank offset)
+slots_place t G (Read bank offset out) slots = other_place (slot_seen t G slots bank offset)
 
 -- a read hands out the page's bytes from its offset on
 unfoldable pub slots_bytes : Geometry → Call → List Slot → List ℕ
@@ -52,7 +65,7 @@ slots_next G (Patch bank offset bytes) slots =
 slots_next G (Read bank offset out) slots = slots
 
 abbrev pub on_slots : Twofish → Geometry → Acts (List Slot)
-on_slots t G = record { number = slots_number t G; bytes = slots_bytes G; next = slots_next G }
+on_slots t G = record { number = slots_number t G; place = slots_place t G; bytes = slots_bytes G; next = slots_next G }
 
 -- the record of slot s: its page sealed under its place, or its bytes as they are
 unfoldable pub slot_record : Twofish → Geometry → ℕ → Slot → List ℕ

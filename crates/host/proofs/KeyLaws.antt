@@ -4,16 +4,17 @@ use Rattle.std.specs.Prelude.{Ok, Err}
 use Rattle.spans.specs.Refusals.{Line, ◌when◌, given, leaves}
 use Rattle.spans.proofs.RefusalLaws.{others, given_exactly}
 use Rattle.twofish.specs.declared.Answer.{Answer}
+use Rattle.twofish.specs.declared.Location.{Location}
 use Rattle.twofish.specs.declared.Refusal.{Refusal}
 use Rattle.twofish.specs.declared.Twofish.{Twofish}
-use Rattle.twofish.specs.Answers.{answer, refusal_number}
+use Rattle.twofish.specs.Answers.{nowhere, told, answer_at, answer, refusal_number, refused_answer}
 use Rattle.twofish.specs.Schedule.{schedule, refused, SetUp, taken, set_up, key_number, handed_back}
 use Rattle.twofish.proofs.AnswerLaws.{never_done}
 use Rattle.twofish.proofs.ScheduleLaws.{taken_units}
 use borrow.Author.Tests.{ltb-true}
 use lib.Dec.{T}
 use Rattle.boxful.specs.declared.ListAnswer.{ListAnswer}
-use Rattle.boxful.specs.Boxful.{Judged, list_answer}
+use Rattle.boxful.specs.Boxful.{Judged, list_answer, listed}
 use Rattle.host.specs.Host.{schedule_of, keyed, keyed_list}
 
 -- a test by the number that it gives
@@ -29,42 +30,44 @@ failed false n some e = (refl, e)
 module _ (key : List ℕ) where
   module _ (t : Twofish) (e : handed_back (Ok t) ≡ set_up key) where
     key_taken : taken (length key) ≡ true
-    unfolding set_up key_number given handed_back
-    key_taken = passed (taken (length key)) (ap (λ (u : SetUp). u.number) e)
+    unfolding set_up key_number given handed_back answer_at
+    key_taken = passed (taken (length key)) (ap (λ (u : SetUp). u.answer.number) e)
 
     its_schedule : t ≡ schedule_of key
     unfolding schedule_of handed_back
     its_schedule = ap (λ (u : SetUp). u.schedule) e
 
-  key_refused : (e : Refusal) → handed_back (Err e) ≡ set_up key → (taken (length key) ≡ false) × (refusal_number e ≡ 1)
-  unfolding set_up key_number given handed_back
-  key_refused e h = failed (taken (length key)) (refusal_number e) (λ z. never_done e (sym z)) (ap (λ (u : SetUp). u.number) h)
+  key_refused : (e : Refusal) → handed_back (Err e) ≡ set_up key → (taken (length key) ≡ false) × (refused_answer e ≡ told 1 0 nowhere)
+  unfolding set_up key_number given handed_back answer_at
+  key_refused e h =
+      let k = failed (taken (length key)) (refusal_number e) (λ z. never_done e (sym z)) (ap (λ (u : SetUp). u.answer.number) h) in
+      (k.0, ap (λ (u : SetUp). u.answer) h ∙ ap (λ (b : Bool). answer (cond (not b) 1 0) 0) k.0)
 
 -- a call
-module _ (key : List ℕ) (number : Twofish → ℕ) where
+module _ (key : List ℕ) (place : Twofish → Location) (number : Twofish → ℕ) where
   module _ (t : Twofish) (e : handed_back (Ok t) ≡ set_up key) where
     its_number : number t ≡ keyed key number
     unfolding keyed
     its_number = ap number (its_schedule key t e) ∙ sym (ap (λ (b : Bool). cond b (number (schedule_of key)) 1) (key_taken key t e))
 
-    pub answered_under : (c : ℕ) (a : Answer) → a ≡ answer (number t) c → a ≡ answer (keyed key number) c
-    answered_under c a h = h ∙ ap (λ (n : ℕ). answer n c) its_number
+    pub answered_under : (c : ℕ) (a : Answer) → a ≡ answer_at (place t) (number t) c → a ≡ answer_at (place (schedule_of key)) (keyed key number) c
+    answered_under c a h = h ∙ ap₂ (λ (u : Twofish) (n : ℕ). answer_at (place u) n c) (its_schedule key t e) its_number
 
     pub left_under : (made : Twofish → List ℕ) (l s : List ℕ) → s ≡ leaves (number t) (made t) l → s ≡ leaves (keyed key number) (made (schedule_of key)) l
     left_under made l s h = h ∙ ap₂ (λ (n : ℕ) (u : Twofish). leaves n (made u) l) its_number (its_schedule key t e)
 
   module _ (e : Refusal) (h : handed_back (Err e) ≡ set_up key) where
-    first_number : (refusal_number e ≡ 1) × (1 ≡ keyed key number)
+    first_number : 1 ≡ keyed key number
     unfolding keyed
-    first_number = let b = key_refused key e h in (b.1, sym (ap (λ (c : Bool). cond c (number (schedule_of key)) 1) b.0))
+    first_number = sym (ap (λ (c : Bool). cond c (number (schedule_of key)) 1) (key_refused key e h).0)
 
-    pub answered_refused : (c : ℕ) (a : Answer) → a ≡ answer (refusal_number e) 0 → a ≡ answer (keyed key number) c
-    unfolding answer
-    answered_refused c a k = k ∙ ap (λ (n : ℕ). answer n 0) first_number.0 ∙ ap (λ (n : ℕ). answer n c) first_number.1
+    pub answered_refused : (c : ℕ) (a : Answer) → a ≡ refused_answer e → a ≡ answer_at (place (schedule_of key)) (keyed key number) c
+    unfolding answer_at
+    answered_refused c a k = k ∙ (key_refused key e h).1 ∙ ap (λ (n : ℕ). answer_at (place (schedule_of key)) n c) first_number
 
     pub left_refused : (x l : List ℕ) → l ≡ leaves (keyed key number) x l
     unfolding leaves
-    left_refused x l = ap (λ (n : ℕ). leaves n x l) first_number.1
+    left_refused x l = ap (λ (n : ℕ). leaves n x l) first_number
 
 -- a list
 module _ (key : List ℕ) (comes_to : Twofish → Judged) where
@@ -73,7 +76,7 @@ module _ (key : List ℕ) (comes_to : Twofish → Judged) where
     unfolding keyed_list
     its_list =
         ap comes_to (its_schedule key t e)
-        ∙ sym (ap (λ (b : Bool). cond b (comes_to (schedule_of key)) record { number = 1; place = 0 }) (key_taken key t e))
+        ∙ sym (ap (λ (b : Bool). cond b (comes_to (schedule_of key)) record { number = 1; place = 0; held = nowhere }) (key_taken key t e))
 
     pub list_under : (c : ℕ) (a : ListAnswer) → a ≡ list_answer (comes_to t) c → a ≡ list_answer (keyed_list key comes_to) c
     list_under c a h = h ∙ ap (λ (j : Judged). list_answer j c) its_list
@@ -84,14 +87,16 @@ module _ (key : List ℕ) (comes_to : Twofish → Judged) where
     list_left_under made l s h = h ∙ ap₂ (λ (j : Judged) (u : Twofish). leaves j.number (made u) l) its_list (its_schedule key t e)
 
   module _ (e : Refusal) (h : handed_back (Err e) ≡ set_up key) where
-    first_list : record { number = 1; place = 0 } ≡ keyed_list key comes_to
+    first_list : record { number = 1; place = 0; held = nowhere } ≡ keyed_list key comes_to
     unfolding keyed_list
-    first_list = sym (ap (λ (c : Bool). cond c (comes_to (schedule_of key)) record { number = 1; place = 0 }) (key_refused key e h).0)
+    first_list = sym (ap (λ (c : Bool). cond c (comes_to (schedule_of key)) record { number = 1; place = 0; held = nowhere }) (key_refused key e h).0)
 
-    pub list_refused : (c : ℕ) (a : ListAnswer) → a ≡ record { number = refusal_number e; count = 0; place = 0 } → a ≡ list_answer (keyed_list key comes_to) c
+    pub list_refused : (c : ℕ) (a : ListAnswer) → a ≡ listed (Err record { refusal = e; place = 0 }) → a ≡ list_answer (keyed_list key comes_to) c
     unfolding list_answer
     list_refused c a k =
-        k ∙ ap (λ (n : ℕ). record { number = n; count = 0; place = 0 }) (key_refused key e h).1 ∙ ap (λ (j : Judged). list_answer j c) first_list
+        k
+        ∙ ap (λ (x : Answer). record { number = x.number; count = 0; place = 0; bank = x.bank; page = x.page }) (key_refused key e h).1
+        ∙ ap (λ (j : Judged). list_answer j c) first_list
 
     pub list_left_refused : (x l : List ℕ) → l ≡ leaves (keyed_list key comes_to).number x l
     unfolding leaves

@@ -1,6 +1,7 @@
 -- A call of the host, which gives the key's bytes and not a schedule: refusal 1 takes the place of refusal 2.
 use Rattle.std.specs.Prelude.{List, ℕ, length, cond}
 use Rattle.twofish.specs.declared.Twofish.{Twofish}
+use Rattle.twofish.specs.Answers.{nowhere}
 use Rattle.twofish.specs.Schedule.{taken, set_up}
 use Rattle.sealed.specs.declared.Geometry.{Geometry}
 use Rattle.boxful.specs.Boxful.{Judged}
@@ -15,7 +16,7 @@ keyed key number = cond (taken (length key)) (number (schedule_of key)) 1
 
 -- the same of a list, which is refused by 1 as a whole
 unfoldable pub keyed_list : List ℕ → (Twofish → Judged) → Judged
-keyed_list key comes_to = cond (taken (length key)) (comes_to (schedule_of key)) record { number = 1; place = 0 }
+keyed_list key comes_to = cond (taken (length key)) (comes_to (schedule_of key)) record { number = 1; place = 0; held = nowhere }
 
 -- the geometry of so many pages in a bank, and banks
 abbrev pub geometry : ℕ → ℕ → Geometry

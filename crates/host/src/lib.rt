@@ -3,25 +3,15 @@
 
 ghost use Rattle.std.specs.Prelude.{◌≡◌, length};
 ghost use Rattle.spans.specs.Refusals.{leaves};
-ghost use Rattle.twofish.specs.Answers.{answer, refusal_number};
+ghost use Rattle.twofish.specs.Answers.{answer, answer_at};
 ghost use Rattle.block.specs.Block.{enciphered, deciphered, block_number};
-ghost use Rattle.sealed.specs.Image.{seal_number, access_number, patch_count, sealed_in, read_from, patched_in};
+ghost use Rattle.sealed.specs.Image.{seal_number, seen_at, other_place, access_number, patch_count, sealed_in, read_from, patched_in};
 ghost use Rattle.boxful.specs.Boxful.{judged, all_patched, all_counted, list_answer};
 ghost use Rattle.host.specs.Host.{schedule_of, keyed, keyed_list, geometry};
 
 use boxful::{ListAnswer, Patch, Refused};
 use sealed::Geometry;
-use twofish::{Answer, Refusal, Twofish};
-
-// What a refused key is answered.
-fn refused(refusal: Refusal) -> Answer
-    ensures { result ≡ answer (refusal_number refusal) 0 }
-{
-    Answer {
-        number: refusal.into(),
-        count: 0,
-    }
-}
+use twofish::{Answer, Twofish};
 
 // The block enciphered where it lies; a refusal leaves every byte.
 #[unsafe(no_mangle)]
@@ -31,7 +21,7 @@ pub extern "C" fn hf_encipher(key: &[u8], block: &mut [u8]) -> Answer
 {
     match Twofish::new(key) {
         Ok(t) => block::encipher(t, block).into(),
-        Err(refusal) => refused(refusal),
+        Err(refusal) => refusal.into(),
     }
 }
 
@@ -43,7 +33,7 @@ pub extern "C" fn hf_decipher(key: &[u8], block: &mut [u8]) -> Answer
 {
     match Twofish::new(key) {
         Ok(t) => block::decipher(t, block).into(),
-        Err(refusal) => refused(refusal),
+        Err(refusal) => refusal.into(),
     }
 }
 
@@ -63,7 +53,7 @@ pub extern "C" fn hf_seal(
 {
     match Twofish::new(key) {
         Ok(t) => sealed::seal(t, Geometry { pages, banks }, image, bank, page, plain).into(),
-        Err(refusal) => refused(refusal),
+        Err(refusal) => refusal.into(),
     }
 }
 
@@ -78,12 +68,12 @@ pub extern "C" fn hf_read(
     offset: u32,
     out: &mut [u8],
 ) -> Answer
-    ensures outcome { result ≡ answer (keyed key.now (λ t. access_number t (geometry pages banks) image.now bank offset (length out.old))) 0 }
+    ensures outcome { result ≡ answer_at (other_place (seen_at (schedule_of key.now) (geometry pages banks) image.now bank offset)) (keyed key.now (λ t. access_number t (geometry pages banks) image.now bank offset (length out.old))) 0 }
     ensures out { out.new ≡ leaves (keyed key.now (λ t. access_number t (geometry pages banks) image.now bank offset (length out.old))) (read_from (deciphered (schedule_of key.now)) (geometry pages banks) bank offset (length out.old) image.now) out.old }
 {
     match Twofish::new(key) {
         Ok(t) => sealed::read(t, Geometry { pages, banks }, image, bank, offset, out).into(),
-        Err(refusal) => refused(refusal),
+        Err(refusal) => refusal.into(),
     }
 }
 
@@ -98,12 +88,12 @@ pub extern "C" fn hf_patch(
     offset: u32,
     bytes: &[u8],
 ) -> Answer
-    ensures outcome { result ≡ answer (keyed key.now (λ t. access_number t (geometry pages banks) image.old bank offset (length bytes.now))) (patch_count offset) }
+    ensures outcome { result ≡ answer_at (other_place (seen_at (schedule_of key.now) (geometry pages banks) image.old bank offset)) (keyed key.now (λ t. access_number t (geometry pages banks) image.old bank offset (length bytes.now))) (patch_count offset) }
     ensures image { image.new ≡ leaves (keyed key.now (λ t. access_number t (geometry pages banks) image.old bank offset (length bytes.now))) (patched_in (enciphered (schedule_of key.now)) (deciphered (schedule_of key.now)) (geometry pages banks) bank offset bytes.now image.old) image.old }
 {
     match Twofish::new(key) {
         Ok(t) => sealed::patch(t, Geometry { pages, banks }, image, bank, offset, bytes).into(),
-        Err(refusal) => refused(refusal),
+        Err(refusal) => refusal.into(),
     }
 }
 

@@ -1,5 +1,5 @@
 -- Laws of the opening, of a slot's line, and of the whole listing.
-use Rattle.std.proofs.Common.{◌≡◌, ℕ, ◌+◌, ◌*◌, ◌<◌, ◌≤◌, Bool, true, false, cond, Option, Some, None, List, [], ◌∷◌, ◌++◌, refl, ap, ap₂, ◌∙◌, length, take, drop, get_or, length-take, length-drop, add-one, arith}
+use Rattle.std.proofs.Common.{◌≡◌, ℕ, ◌+◌, ◌*◌, ◌<◌, ◌≤◌, Bool, true, false, cond, Option, Some, None, List, [], ◌++◌, refl, ap, ap₂, ◌∙◌, length, take, drop, length-take, length-drop, add-one, arith}
 use Rattle.std.specs.Prelude.{Result, Ok, Err, codes}
 use Rattle.std.specs.Result.{result_unwrap_or}
 use Rattle.std.specs.Int.{from_bool}
@@ -11,7 +11,7 @@ use Rattle.sealed.specs.declared.Geometry.{Geometry}
 use Rattle.listing.specs.declared.Opening.{Opening}
 use Rattle.listing.specs.declared.Verdict.{Verdict}
 use Rattle.listing.specs.Slot.{opening_length, opening, slots, bank_of, page_of, verdict, slot_verdict, is_right}
-use Rattle.listing.specs.Listing.{two_digits, word, ended, line, slot_line, lines, right_count, summary, extra, listed, listed_after, listing}
+use Rattle.listing.specs.Listing.{ended, line, slot_line, lines, right_count, summary, extra, listed, listed_after, listing}
 
 -- ---- the opening
 -- the schedule that set-up hands back
@@ -21,12 +21,6 @@ schedule-handed (Ok t) = refl
 schedule-handed (Err e) = refl
 
 -- ---- a slot
--- the bytes of a line, from those that are written
-pub line-written : (bank page : ℕ) (v : Verdict) (ds es w : List ℕ) → ds ≡ two_digits bank → es ≡ two_digits page → w ≡ word v
-    → (get_or ds 0 0 ∷ get_or ds 1 0 ∷ 58 ∷ get_or es 0 0 ∷ get_or es 1 0 ∷ 32 ∷ []) ++ (w ++ 10 ∷ []) ≡ line bank page v
-unfolding line
-line-written bank page v ds es w d e f = rw (d, e, f)
-
 -- what is said of a slot, from the bytes that were taken for it
 pub slot_verdict-taken : (o : Opening) (slot : ℕ) (rest bytes : List ℕ) (v : Verdict) → bytes ≡ take 272 rest
     → v ≡ verdict o.schedule (bank_of o.geometry slot) (page_of o.geometry slot) bytes → v ≡ slot_verdict o slot rest

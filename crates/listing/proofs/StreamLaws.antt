@@ -1,5 +1,8 @@
--- Laws of readers whose bytes are known.
-use Rattle.std.proofs.Common.{◌≡◌, ℕ, ◌+◌, ◌≤◌, List, ◌++◌, Option, Some, None, IfSome, refl, ap, ◌∙◌, length, take, drop, drop_at, length-take-le, drop-drop}
+-- Laws of readers whose bytes are known, and of what is written in pieces.
+use Rattle.std.proofs.Common.{◌≡◌, ℕ, ◌+◌, ◌≤◌, List, ◌++◌, Option, Some, None, IfSome, Result, OnOk, subst, refl, ap, ◌∙◌, length, take, drop, drop_at, length-take-le, drop-drop}
+use Rattle.std.proofs.lemmas.Result.{on_ok_weaker}
+use Rattle.std.specs.Io.KnownBytes.{Appends}
+use Rattle.std.proofs.KnownBytes.{Appends-trans}
 use Rattle.listing.specs.Streams.{Takes, Drops}
 use borrow.Rule.Slice.PartMut.{put_mid, post_of, take_put}
 use lib.Seq.{take-add, take-append-le}
@@ -53,3 +56,10 @@ pub Drops-known : (P : List ℕ → Type 0) (a b : Option (List ℕ)) (m : ℕ) 
 Drops-known P None b m p q = tt
 Drops-known P (Some x) None m p q = absurd p
 Drops-known P (Some x) (Some y) m p q = rw (← p) q
+
+-- three pieces written one after the other
+pub Appends-three :
+    {T E : Type 0} (r : Result T E) (a b c d : Option (List ℕ)) (x y z w : List ℕ) → x ++ (y ++ z) ≡ w → Appends a b x → Appends b c y
+    → OnOk r (Appends c d z) → OnOk r (Appends a d w)
+Appends-three r a b c d x y z w e p q =
+    on_ok_weaker r (λ s. subst (Appends a d) e (Appends-trans a b d x (y ++ z) p (Appends-trans b c d y z q s)))

@@ -4,7 +4,7 @@ use Rattle.std.specs.Fmt.{decimal}
 use Rattle.sealed.specs.declared.Geometry.{Geometry}
 use Rattle.listing.specs.declared.Opening.{Opening}
 use Rattle.listing.specs.declared.Verdict.{Verdict}
-use Rattle.listing.specs.declared.Verdict.TheVariants.{Right, Wrong, Missing}
+use Rattle.listing.specs.declared.Verdict.TheVariants.{Right, Holds, Wrong, Missing}
 use Rattle.listing.specs.Slot.{opening_length, opening, slots, bank_of, page_of, slot_verdict, is_right}
 
 -- the byte of a hex digit: 0 to 9, then the lower-case letters from a on
@@ -15,19 +15,24 @@ hex_digit d = cond (ltb d 10) (48 + d) (87 + d)
 abbrev pub two_digits : ℕ → List ℕ
 two_digits n = hex_digit (n / 16 % 16) ∷ hex_digit (n % 16) ∷ []
 
--- the word for what is said of a slot
-abbrev pub word : Verdict → List ℕ
-word Right = codes "ok"
-word Wrong = codes "wrong"
-word Missing = codes "missing"
+-- a place: bank and page with a colon between
+abbrev pub place_text : ℕ → ℕ → List ℕ
+place_text bank page = two_digits bank ++ codes ":" ++ two_digits page
+
+-- what is said of a slot
+abbrev pub said : Verdict → List ℕ
+said Right = codes "ok"
+said (Holds l) = codes "holds " ++ place_text l.bank l.page
+said Wrong = codes "wrong"
+said Missing = codes "missing"
 
 -- a line ends with a line feed
 abbrev pub ended : List ℕ → List ℕ
 ended text = text ++ 10 ∷ []
 
--- the line of a slot: bank and page with a colon between, a space, and the word
+-- the line of a slot: its place, a space, and what is said of it
 unfoldable pub line : ℕ → ℕ → Verdict → List ℕ
-line bank page v = two_digits bank ++ codes ":" ++ two_digits page ++ codes " " ++ ended (word v)
+line bank page v = place_text bank page ++ codes " " ++ ended (said v)
 
 -- the line after those of the slots: N of them are ok, of M
 unfoldable pub summary : ℕ → ℕ → List ℕ

@@ -6,12 +6,12 @@ ghost use Rattle.std.specs.Io.KnownBytes.{Appends};
 ghost use Rattle.sealed.specs.Image.{in_range};
 ghost use Rattle.listing.specs.Streams.{Takes, Drops, Writes};
 ghost use Rattle.listing.specs.Slot.{opening, verdict, is_right, slots, slot_verdict};
-ghost use Rattle.listing.specs.Listing.{hex_digit, two_digits, word, line, summary, slot_line, lines, right_count, listed, listing};
+ghost use Rattle.listing.specs.Listing.{hex_digit, two_digits, place_text, said, ended, line, summary, slot_line, lines, right_count, listed, listing};
 
-use sealed::Geometry;
+use sealed::{Geometry, Seen};
 use std::io;
 use std::io::{Read, Write};
-use twofish::Twofish;
+use twofish::{Location, Twofish};
 
 // The bytes before the image, and where the key begins among them.
 const OPENING: usize = 34;
@@ -30,7 +30,9 @@ pub struct Opening {
 pub enum Verdict {
     // Its bytes are the record of its place.
     Right,
-    // They are not.
+    // They are the record of another place.
+    Holds(Location),
+    // They are the record of no place.
     Wrong,
     // Fewer bytes were left than a record has.
     Missing,
@@ -59,11 +61,12 @@ pub fn judge(t: Twofish, bank: u32, page: u32, bytes: &[u8]) -> Verdict
     ensures { result ≡ verdict t bank page bytes.now }
 {
     if bytes.len() < Twofish::RECORD {
-        Verdict::Missing
-    } else if sealed::look(t, bank, page, bytes) {
-        Verdict::Right
-    } else {
-        Verdict::Wrong
+        return Verdict::Missing;
+    }
+    match sealed::look(t, bank, page, bytes) {
+        Seen::Own => Verdict::Right,
+        Seen::Other(location) => Verdict::Holds(location),
+        Seen::NoPlace => Verdict::Wrong,
     }
 }
 
@@ -82,21 +85,36 @@ fn two_digits(n: u32) -> [u8; 2]
     [hex_digit(n / 16), hex_digit(n)]
 }
 
+// A place as it is written: bank and page by two digits each, with a colon between.
+fn place_text(bank: u32, page: u32) -> [u8; 5]
+    ensures { result ≡ place_text bank page }
+{
+    let bank = two_digits(bank);
+    let page = two_digits(page);
+    [bank[0], bank[1], b':', page[0], page[1]]
+}
+
 impl Verdict {
     fn is_right(self) -> bool
         ensures { result ≡ is_right self }
     {
         matches!(self, Verdict::Right)
     }
+}
 
-    fn word(self) -> &'static str
-        ensures { result.now ≡ word self }
-    {
-        match self {
-            Verdict::Right => "ok",
-            Verdict::Wrong => "wrong",
-            Verdict::Missing => "missing",
+// Writes what is said of a slot, to the end of its line.
+fn write_verdict<W: Write>(output: &mut W, verdict: Verdict) -> io::Result<()>
+    ensures { OnOk result (Appends (W.contents output.old) (W.contents output.new) (ended (said verdict))) }
+{
+    match verdict {
+        Verdict::Right => output.write_all(b"ok\n"),
+        Verdict::Holds(location) => {
+            output.write_all(b"holds ")?;
+            output.write_all(&place_text(location.bank, location.page))?;
+            output.write_all(b"\n")
         }
+        Verdict::Wrong => output.write_all(b"wrong\n"),
+        Verdict::Missing => output.write_all(b"missing\n"),
     }
 }
 
@@ -104,10 +122,9 @@ impl Verdict {
 fn write_line<W: Write>(output: &mut W, bank: u32, page: u32, verdict: Verdict) -> io::Result<()>
     ensures { OnOk result (Appends (W.contents output.old) (W.contents output.new) (line bank page verdict)) }
 {
-    let bank = two_digits(bank);
-    let page = two_digits(page);
-    output.write_all(&[bank[0], bank[1], b':', page[0], page[1], b' '])?;
-    writeln!(output, "{}", verdict.word())
+    output.write_all(&place_text(bank, page))?;
+    output.write_all(b" ")?;
+    write_verdict(output, verdict)
 }
 
 // Writes how many slots are ok, and how many there are.

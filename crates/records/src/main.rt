@@ -112,13 +112,23 @@ fn main(rt: HostRuntime) -> io::Result<()> {
     show(rt, "read of 2 bytes at 0x02ff in bank 3", read.into())?;
     println!(rt; "{:?}", two)?;
     println!(rt;
-        "look at that record, as bank 3, page 2: {}",
+        "look at that record, as bank 3, page 2: {:?}",
         sealed::look(t, 3, 2, &image[52768..53040])
     )?;
     println!(rt;
-        "as bank 2, page 3: {}",
+        "as bank 2, page 3: {:?}",
         sealed::look(t, 2, 3, &image[52768..53040])
     )?;
+    let (front, back) = image.split_at_mut(52768);
+    front[544..816].copy_from_slice(&back[..272]);
+    let read = sealed::read(t, GEOMETRY, &image, 0, 0x0262, &mut out);
+    let answer: Answer = read.into();
+    show(
+        rt,
+        "read of 4 bytes in bank 0, page 2, where it was laid",
+        answer,
+    )?;
+    println!(rt; "it is that of bank {}, page {}", answer.bank, answer.page)?;
 
     patch(rt, t, &mut image, 0x0237, &[0xa5])?;
     let mut out = [1u8; 4];

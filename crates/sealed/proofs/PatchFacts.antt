@@ -1,6 +1,6 @@
 -- What an accepted patch leaves: every byte outside its record, and in it every byte before the first block that it writes into. On any image, whatever its
 -- other records are.
-use Rattle.std.proofs.Common.{◌≡◌, ℕ, ◌+◌, ◌-◌, ◌*◌, ◌/◌, ◌%◌, ◌<◌, ◌≤◌, List, ◌++◌, [], ◌∷◌, not, eqb, length, take, drop, replicate, true, refl, sym, ap, ap₂, subst, ◌∙◌, arith, length-drop}
+use Rattle.std.proofs.Common.{◌≡◌, ℕ, ◌+◌, ◌-◌, ◌*◌, ◌/◌, ◌%◌, ◌<◌, ◌≤◌, List, ◌++◌, eqb, cond, length, take, drop, replicate, true, refl, sym, ap, ap₂, subst, ◌∙◌, arith, length-drop}
 use Rattle.std.proofs.lemmas.Bool.{cases_lt}
 use Rattle.std.proofs.lemmas.Bool.Decides.{eqb_tells}
 use Rattle.std.proofs.lemmas.List.{drop-drop, drop-take, take-take}
@@ -18,9 +18,11 @@ use Rattle.block.proofs.Undone.{redone}
 use Rattle.block.proofs.ThereAndBack.{enciphered-length}
 use Rattle.sealed.specs.declared.Geometry.{Geometry}
 use Rattle.sealed.specs.Cbc.{cbc, uncbc}
-use Rattle.sealed.specs.Record.{place_block, sealed, looked, page_of}
-use Rattle.spans.specs.Refusals.{◌when◌, given}
-use Rattle.sealed.specs.Image.{offset_reached, within_page, refusals, slot, record_at, sealed_in, patched_in, access_number}
+use Rattle.sealed.specs.declared.Seen.{Seen}
+use Rattle.sealed.specs.declared.Seen.TheVariants.{Own, Other, NoPlace}
+use Rattle.sealed.specs.Record.{place_block, sealed, looked, names_place, place_named, whose, page_of}
+use Rattle.spans.specs.Refusals.{given}
+use Rattle.sealed.specs.Image.{offset_reached, within_page, refusals, slot, record_at, sealed_in, seen_at, look_refusals, patched_in, access_number}
 use Rattle.sealed.proofs.RecordLaws.{sealed-length}
 use Rattle.sealed.proofs.OpenLaws.{page_of-length, sealing}
 use Rattle.sealed.proofs.PageLaws.{sealed-bytes}
@@ -164,19 +166,23 @@ module _ (t : Twofish) (G : Geometry) (image : List ℕ) (bank offset : ℕ) (by
   after-length : length after ≡ length image
   after-length = ap length written ∙ splice-length at v image fits
 
-  -- so every call is refused as before, or not at all
-  pub number_kept : (b o n : ℕ) → access_number t G after b o n ≡ access_number t G image b o n
-  unfolding access_number record_at looked
-  number_kept b o n =
+  -- so every look says what it said
+  pub seen_kept : (b o : ℕ) → seen_at t G after b o ≡ seen_at t G image b o
+  unfolding seen_at whose record_at looked
+  seen_kept b o =
       let j : ℕ = slot G b (o / 256) in
       let block : take 16 (take 272 (drop (272 * j) after)) ≡ take 16 (take 272 (drop (272 * j) image)) =
       take-take 16 272 (drop (272 * j) after) (omega arith) ∙ first_kept j ∙ sym (take-take 16 272 (drop (272 * j) image) (omega arith)) in
-      ap₂
-      (λ (m : ℕ) (l : List ℕ).
-      given
-      (refusals t G m (offset_reached G b o) (within_page o n)
-      ++ 8 when not (pointwise eqb (D l) (place_block b (o / 256))) ∷ []))
-      after-length block
+      ap
+      (λ (l : List ℕ).
+      cond (pointwise eqb (D l) (place_block b (o / 256))) Own (cond (names_place (D l)) (Other (place_named (D l))) NoPlace))
+      block
+
+  -- and every call is refused as before, or not at all
+  pub number_kept : (b o n : ℕ) → access_number t G after b o n ≡ access_number t G image b o n
+  unfolding access_number
+  number_kept b o n =
+      ap₂ (λ (m : ℕ) (s : Seen). given (refusals t G m (offset_reached G b o) (within_page o n) ++ look_refusals s)) after-length (seen_kept b o)
 
   -- bytes stay bytes
   pub bytes_after : AllBytes after

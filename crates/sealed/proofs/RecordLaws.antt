@@ -1,5 +1,5 @@
 -- Laws of a record: how the code lays it out and looks at it, and its length.
-use Rattle.std.proofs.Common.{◌≡◌, ℕ, ◌+◌, ◌-◌, ◌≤◌, List, [], ◌∷◌, ◌++◌, length, take, drop, replicate, get_or, ◌&&◌, eqb, refl, sym, ap, ◌∙◌, arith, length-append, append_assoc}
+use Rattle.std.proofs.Common.{◌≡◌, ℕ, ◌+◌, ◌-◌, ◌≤◌, List, [], ◌∷◌, ◌++◌, length, take, drop, replicate, get_or, ◌&&◌, eqb, Bool, cond, refl, sym, ap, ap₂, ◌∙◌, arith, length-append, length-drop, append_assoc}
 use Rattle.std.proofs.Math.ListN.{length-replicate}
 use lib.Pointwise.{pointwise}
 use lib.Seq.{take_all}
@@ -8,7 +8,8 @@ use Rattle.spans.specs.Bytes.{xor_bytes}
 use Rattle.spans.proofs.PartsLaws.{splice-length, take-splice, splice_end}
 use Rattle.sealed.specs.Cbc.{cbc}
 use Rattle.sealed.proofs.ChainLaws.{through-length}
-use Rattle.sealed.specs.Record.{place_block, fill_byte, filled, sealed, looked}
+use Rattle.sealed.specs.declared.Seen.TheVariants.{Own, Other, NoPlace}
+use Rattle.sealed.specs.Record.{place_block, fill_byte, filled, sealed, looked, names_place, place_named, whose}
 
 pub place_block-length : (b p : ℕ) → length (place_block b p) ≡ 16
 unfolding place_block
@@ -51,6 +52,23 @@ looked_split D b p r w e long = ap (λ (m : List ℕ). pointwise eqb m (b ∷ p 
     split [] h = absurd (omega (arith, h))
     split (x ∷ []) h = absurd (omega (arith, h))
     split (x ∷ y ∷ m) h = ap (λ (k : List ℕ). eqb x b && (eqb y p && pointwise eqb k (replicate 14 0))) (sym (take_all 14 m (omega (arith, h))))
+
+-- whose record it is, by the block w that its first one deciphers to
+pub whose_split :
+    (D : List ℕ → List ℕ) (b p : ℕ) (r w : List ℕ) → w ≡ D (take 16 r) → length w ≡ 16
+    → let zeros : Bool = pointwise eqb (take 14 (drop 2 w)) (replicate 14 0) in
+    whose D b p r ≡ cond (eqb (get_or w 0 0) b && (eqb (get_or w 1 0) p && zeros)) Own (cond zeros (Other (place_named w)) NoPlace)
+unfolding whose names_place
+whose_split D b p r w e long =
+    let named : pointwise eqb (drop 2 w) (replicate 14 0) ≡ pointwise eqb (take 14 (drop 2 w)) (replicate 14 0) =
+    ap (λ (m : List ℕ). pointwise eqb m (replicate 14 0)) (sym (take_all 14 (drop 2 w) (omega (arith, long, length-drop 2 w)))) in
+    ap₂ (λ (m : List ℕ) (own : Bool). cond own Own (cond (pointwise eqb (drop 2 m) (replicate 14 0)) (Other (place_named m)) NoPlace)) (sym e)
+    (looked_split D b p r w e long)
+    ∙ ap
+    (λ (zeros : Bool).
+    cond (eqb (get_or w 0 0) b && (eqb (get_or w 1 0) p && pointwise eqb (take 14 (drop 2 w)) (replicate 14 0))) Own
+    (cond zeros (Other (place_named w)) NoPlace))
+    named
 
 pub sealed-length :
     (E : List ℕ → List ℕ) (b p : ℕ) (plain : List ℕ) → ((l : List ℕ) → length (E l) ≡ 16) → length plain ≤ 256 → length (sealed E b p plain) ≡ 272

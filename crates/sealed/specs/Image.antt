@@ -1,11 +1,16 @@
 -- The image: the records of a geometry in slot order, what seal and patch do to it, and what read gives.
-use Rattle.std.specs.Prelude.{Bool, not, ◌&&◌, List, [], ◌∷◌, ◌++◌, ℕ, ◌+◌, ◌-◌, ◌*◌, ◌/◌, ◌%◌, eqb, ltb, leb, length, take, drop}
+use Rattle.std.specs.Prelude.{Bool, true, false, not, ◌&&◌, List, [], ◌∷◌, ◌++◌, ℕ, ◌+◌, ◌-◌, ◌*◌, ◌/◌, ◌%◌, eqb, ltb, leb, length, take, drop}
 use Rattle.spans.specs.Parts.{splice}
 use Rattle.spans.specs.Refusals.{Line, ◌when◌, given}
+use Rattle.twofish.specs.declared.Answer.{Answer}
+use Rattle.twofish.specs.declared.Location.{Location}
 use Rattle.twofish.specs.declared.Twofish.{Twofish}
+use Rattle.twofish.specs.Answers.{nowhere, answer_at}
 use Rattle.sealed.specs.declared.Geometry.{Geometry}
 use Rattle.block.specs.Block.{deciphered}
-use Rattle.sealed.specs.Record.{sealed, looked, page_of}
+use Rattle.sealed.specs.declared.Seen.{Seen}
+use Rattle.sealed.specs.declared.Seen.TheVariants.{Other, NoPlace}
+use Rattle.sealed.specs.Record.{sealed, whose, page_of}
 
 -- from 1 to 256
 unfoldable pub up_to_256 : ℕ → Bool
@@ -55,12 +60,35 @@ refusals t G long placed fits = image_refusals t G long ++ 6 when not placed ∷
 unfoldable pub seal_number : Twofish → Geometry → ℕ → ℕ → ℕ → ℕ → ℕ
 seal_number t G long bank page n = given (refusals t G long (reached G bank page) (up_to_256 n))
 
--- the number of read's and patch's refusal: after those, a record that is not of its place
+-- whose record it is that a call looks at
+unfoldable pub seen_at : Twofish → Geometry → List ℕ → ℕ → ℕ → Seen
+seen_at t G image bank offset = whose (deciphered t) bank (offset / 256) (record_at G bank (offset / 256) image)
+
+-- the refusals of a look: 8, the record is no place's; 11, it is another place's
+abbrev pub is_no_place : Seen → Bool
+is_no_place NoPlace = true
+is_no_place s = false
+
+abbrev pub is_other : Seen → Bool
+is_other (Other l) = true
+is_other s = false
+
+unfoldable pub look_refusals : Seen → List Line
+look_refusals s = 8 when is_no_place s ∷ 11 when is_other s ∷ []
+
+-- the other place
+abbrev pub other_place : Seen → Location
+other_place (Other l) = l
+other_place s = nowhere
+
+-- the number of read's and patch's refusal: after those, that of their look
 unfoldable pub access_number : Twofish → Geometry → List ℕ → ℕ → ℕ → ℕ → ℕ
 access_number t G image bank offset n =
-    given
-    (refusals t G (length image) (offset_reached G bank offset) (within_page offset n)
-    ++ 8 when not (looked (deciphered t) bank (offset / 256) (record_at G bank (offset / 256) image)) ∷ [])
+    given (refusals t G (length image) (offset_reached G bank offset) (within_page offset n) ++ look_refusals (seen_at t G image bank offset))
+
+-- what they answer, where c is what they count
+unfoldable pub access_answer : Twofish → Geometry → List ℕ → ℕ → ℕ → ℕ → ℕ → Answer
+access_answer t G image bank offset n c = answer_at (other_place (seen_at t G image bank offset)) (access_number t G image bank offset n) c
 
 -- an image with the page of a bank sealed into its slot
 unfoldable pub sealed_in : (List ℕ → List ℕ) → Geometry → ℕ → ℕ → List ℕ → List ℕ → List ℕ

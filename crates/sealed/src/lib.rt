@@ -5,13 +5,13 @@ ghost use Rattle.std.specs.Prelude.{◌≡◌, ◌++◌, ◌+◌, ◌*◌, ◌/�
 ghost use Rattle.spans.specs.Bytes.{xor_bytes};
 ghost use Rattle.spans.specs.Parts.{splice};
 ghost use Rattle.spans.specs.Refusals.{given, leaves};
-ghost use Rattle.twofish.specs.Answers.{answer, outcome_number, answered, counted};
+ghost use Rattle.twofish.specs.Answers.{answer, answered, counted};
 ghost use Rattle.block.specs.Block.{enciphered, deciphered, Schedule};
 ghost use Rattle.sealed.specs.Cbc.{cbc, uncbc};
-ghost use Rattle.sealed.specs.Record.{place_block, filled, sealed, looked, look_answer, page_of};
-ghost use Rattle.sealed.specs.Image.{in_range, reached, offset_reached, slot, up_to_256, within_page, image_number, refusals, seal_number, sealed_in, access_number, read_from, patched_in, patch_count};
+ghost use Rattle.sealed.specs.Record.{place_block, filled, sealed, whose, whose_answer, page_of};
+ghost use Rattle.sealed.specs.Image.{in_range, reached, offset_reached, slot, up_to_256, within_page, image_number, refusals, seal_number, sealed_in, access_number, access_answer, read_from, patched_in, patch_count};
 
-use twofish::{Refusal, Twofish};
+use twofish::{Location, Refusal, Twofish};
 
 // Blocks of a record: the place and sixteen of the page.
 const BLOCKS: u32 = 17;
@@ -24,6 +24,17 @@ const FILL: u8 = 0xff;
 pub struct Geometry {
     pub pages: u32,
     pub banks: u32,
+}
+
+// What the first block of a record says of the place that it is looked at for.
+#[derive(Clone, Copy, Debug, PartialEq, Eq)]
+pub enum Seen {
+    // It is the place block of that place.
+    Own,
+    // It is the place block of another place, which may lie beyond the geometry.
+    Other(Location),
+    // It is no place block.
+    NoPlace,
 }
 
 // Whether a number is from 1 to 256.
@@ -95,7 +106,7 @@ fn judged(
     placed: bool,
     fits: bool,
 ) -> Result<(), Refusal>
-    ensures { outcome_number result ≡ given (refusals t geometry long placed fits) }
+    ensures { answered result ≡ answer (given (refusals t geometry long placed fits)) 0 }
 {
     judge(t, geometry, long)?;
     if !placed {
@@ -190,14 +201,25 @@ impl Accepted {
         }
     }
 
-    // Whether a record is that of a place.
-    fn looked(&self, bank: u32, page: u32, blocks: &[u8]) -> bool
+    // Whose record it is, looked at for a place.
+    fn look(&self, bank: u32, page: u32, blocks: &[u8]) -> Seen
         requires { length blocks.now ≡ 272 }
-        ensures { result ≡ looked (deciphered self.now.t) bank page blocks.now }
+        ensures { result ≡ whose (deciphered self.now.t) bank page blocks.now }
     {
         let mut first = spans::block(blocks);
         let _ = block::decipher(self.t, &mut first);
-        first[0] as u32 == bank && first[1] as u32 == page && first[2..] == [0; 14]
+        if first[2..] != [0; 14] {
+            return Seen::NoPlace;
+        }
+        let held = Location {
+            bank: first[0] as u32,
+            page: first[1] as u32,
+        };
+        if held.bank == bank && held.page == page {
+            Seen::Own
+        } else {
+            Seen::Other(held)
+        }
     }
 
     // The bytes of a record's page from p on. Only the blocks that hold them are deciphered.
@@ -261,16 +283,16 @@ pub fn seal(
     Ok(BLOCKS)
 }
 
-// Whether 272 bytes are the record of a bank's page: their first block deciphers to the place block. No bytes are under a schedule that is
-// refused, nor of any other length.
-pub fn look(t: Twofish, bank: u32, page: u32, bytes: &[u8]) -> bool
-    ensures { result ≡ look_answer t bank page bytes.now }
+// Whose record 272 bytes are, looked at for a bank's page: what their first block deciphers to says it. Under a schedule that is refused, and of any
+// other length, no bytes are the record of a place.
+pub fn look(t: Twofish, bank: u32, page: u32, bytes: &[u8]) -> Seen
+    ensures { result ≡ whose_answer t bank page bytes.now }
 {
     if t.start > 2 || bytes.len() != Twofish::RECORD {
-        return false;
+        return Seen::NoPlace;
     }
     let cipher = Accepted { t };
-    cipher.looked(bank, page, bytes)
+    cipher.look(bank, page, bytes)
 }
 
 // Where the record that a call looks at begins: the page at a bank's offset, from which the call reads or writes n bytes; or the first refusal in order.
@@ -282,17 +304,18 @@ pub fn find(
     offset: u32,
     n: usize,
 ) -> Result<usize, Refusal>
-    ensures { counted result ≡ answer (access_number t geometry image.now bank offset n) (272 * slot geometry bank (offset / 256)) }
+    ensures { counted result ≡ access_answer t geometry image.now bank offset n (272 * slot geometry bank (offset / 256)) }
 {
     let placed = geometry.offset_reached(bank, offset);
     judged(t, geometry, image.len(), placed, within_page(offset, n))?;
     let page = offset / 256;
     let at = geometry.record_start(bank, page);
     let cipher = Accepted { t };
-    if !cipher.looked(bank, page, &image[at..at + Twofish::RECORD]) {
-        return Err(Refusal::Record);
+    match cipher.look(bank, page, &image[at..at + Twofish::RECORD]) {
+        Seen::Own => Ok(at),
+        Seen::Other(location) => Err(Refusal::Elsewhere(location)),
+        Seen::NoPlace => Err(Refusal::Record),
     }
-    Ok(at)
 }
 
 // The plain bytes of a bank from an offset on, 1 to 256 and all inside one page, into the whole of out. A refusal leaves every byte.
@@ -304,7 +327,7 @@ pub fn read(
     offset: u32,
     out: &mut [u8],
 ) -> Result<u32, Refusal>
-    ensures outcome { counted result ≡ answer (access_number t geometry image.now bank offset (length out.old)) 0 }
+    ensures outcome { counted result ≡ access_answer t geometry image.now bank offset (length out.old) 0 }
     ensures out { out.new ≡ leaves (access_number t geometry image.now bank offset (length out.old)) (read_from (deciphered t) geometry bank offset (length out.old) image.now) out.old }
 {
     let at = find(t, geometry, image, bank, offset, out.len())?;
@@ -324,7 +347,7 @@ pub fn patch(
     offset: u32,
     bytes: &[u8],
 ) -> Result<u32, Refusal>
-    ensures outcome { counted result ≡ answer (access_number t geometry image.old bank offset (length bytes.now)) (patch_count offset) }
+    ensures outcome { counted result ≡ access_answer t geometry image.old bank offset (length bytes.now) (patch_count offset) }
     ensures image { image.new ≡ leaves (access_number t geometry image.old bank offset (length bytes.now)) (patched_in (enciphered t) (deciphered t) geometry bank offset bytes.now image.old) image.old }
 {
     let at = find(t, geometry, image, bank, offset, bytes.len())?;

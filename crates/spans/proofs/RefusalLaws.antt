@@ -43,6 +43,11 @@ given_other n (r ∷ rs) ss o e =
     let k = given_other n rs ss b.1 h.1 in
     ((h.0, k.0), k.1)
 
+-- a number that the list does not have is never given
+pub never_given : (n : ℕ) (rs : List Line) → (n ≡ 0 → ⊥) → T (others n rs) → given rs ≡ n → ⊥
+unfolding given
+never_given n rs some o e = some (sym (given_other n rs [] o (ap given (append-nil rs) ∙ e)).1)
+
 -- nothing is given only where the first condition fails and nothing is given after it
 pub given_none : (n : ℕ) (t : Bool) (rs : List Line) → given (suc n when t ∷ rs) ≡ 0 → (t ≡ false) × (given rs ≡ 0)
 unfolding given
@@ -84,7 +89,7 @@ given_exactly n b rs ss some o o' =
   where
     held : (c : Bool) → cond c n (given ss) ≡ n → c ≡ true
     held true e = refl
-    held false e = absurd (some (sym (given_other n ss [] o' (ap given (append-nil ss) ∙ e)).1))
+    held false e = absurd (never_given n ss some o' e)
 
 -- and 0 exactly when none holds
 pub given_zero : (rs : List Line) → T (others 0 rs) → (given rs ≡ 0 → NoneHolds rs) × (NoneHolds rs → given rs ≡ 0)

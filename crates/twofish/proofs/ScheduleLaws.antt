@@ -12,6 +12,7 @@ use Rattle.spans.specs.Refusals.{given}
 use Rattle.field.specs.Matrix.{times}
 use Rattle.twofish.specs.H.{h}
 use Rattle.twofish.specs.Schedule.{ρ, m_e, m_o, a_word, b_word, k_word, s_bytes, schedule, refused, taken, key_number, set_up}
+use Rattle.twofish.specs.Answers.{nowhere, told, answer_at}
 use Rattle.twofish.specs.declared.Twofish.{Twofish}
 
 module _ (m : List ℕ) (k x a g b v : ℕ) (ea : a ≡ h (ρ * (2 * x)) (m_e m k)) (eg : g ≡ h (ρ * (2 * x + 1)) (m_o m k))
@@ -64,11 +65,11 @@ taken_units n e = by (eqb n 16) (eqb n 24) (eqb n 32) refl refl refl e
 -- what set-up hands back for a length that is taken, and for another
 pub set_up_taken :
     (m : List ℕ) (t : Twofish) → taken (length m) ≡ true → t ≡ schedule m (length m / 8)
-    → record { number = 0; count = 0; schedule = t } ≡ set_up m
-unfolding set_up key_number given
-set_up_taken m t e et = rw e (ap (λ (u : Twofish). record { number = 0; count = 0; schedule = u }) et)
+    → record { answer = told 0 0 nowhere; schedule = t } ≡ set_up m
+unfolding set_up key_number given answer_at
+set_up_taken m t e et = rw e (ap (λ (u : Twofish). record { answer = told 0 0 nowhere; schedule = u }) et)
 
 pub set_up_refused :
-    (m : List ℕ) → taken (length m) ≡ false → record { number = 1; count = 0; schedule = refused } ≡ set_up m
-unfolding set_up key_number given
+    (m : List ℕ) → taken (length m) ≡ false → record { answer = told 1 0 nowhere; schedule = refused } ≡ set_up m
+unfolding set_up key_number given answer_at
 set_up_refused m e = rw e

@@ -6,9 +6,10 @@ use Rattle.spans.specs.Refusals.{◌when◌, given}
 use Rattle.field.specs.Matrix.{rs_times}
 use Rattle.twofish.specs.Lists.{listed, word_at}
 use Rattle.twofish.specs.H.{h}
+use Rattle.twofish.specs.declared.Answer.{Answer}
 use Rattle.twofish.specs.declared.Twofish.{Twofish}
 use Rattle.twofish.specs.declared.Refusal.{Refusal}
-use Rattle.twofish.specs.Answers.{refusal_number}
+use Rattle.twofish.specs.Answers.{nowhere, told, answer, refused_answer}
 
 -- ---- the paper's lists, for a key m of 8 k bytes
 -- every other word of the key, from word o on: Me = (M_0, M_2, .., M_{2k-2}) for o = 0, and Mo = (M_1, M_3, .., M_{2k-1}) for o = 1
@@ -57,16 +58,15 @@ unfoldable pub refused : Twofish
 refused = record { s = replicate 16 0; k = replicate 40 0; start = 3 }
 
 -- ---- set-up
--- what set-up hands back: number, count and schedule
+-- what set-up hands back: what it answers, and a schedule
 pub record SetUp : Type 0 where
-  pub number : ℕ
-  pub count : ℕ
+  pub answer : Answer
   pub schedule : Twofish
 
--- the same of its outcome: an error stands for its number, count 0 and the refused schedule
+-- the same of its outcome: an error stands for its answer and the refused schedule
 unfoldable pub handed_back : Result Twofish Refusal → SetUp
-handed_back (Ok t) = record { number = 0; count = 0; schedule = t }
-handed_back (Err e) = record { number = refusal_number e; count = 0; schedule = refused }
+handed_back (Ok t) = record { answer = told 0 0 nowhere; schedule = t }
+handed_back (Err e) = record { answer = refused_answer e; schedule = refused }
 
 -- the key lengths that are taken
 unfoldable pub taken : ℕ → Bool
@@ -83,4 +83,4 @@ units m = length m / 8
 -- what set-up hands back for any bytes
 unfoldable pub set_up : List ℕ → SetUp
 set_up m =
-    record { number = key_number m; count = 0; schedule = cond (taken (length m)) (schedule m (units m)) refused }
+    record { answer = answer (key_number m) 0; schedule = cond (taken (length m)) (schedule m (units m)) refused }

@@ -9,60 +9,124 @@ ghost use Rattle.twofish.specs.Lists.{listed, word_at};
 ghost use Rattle.twofish.specs.H.{through, h};
 ghost use Rattle.twofish.specs.Half.{first_of};
 ghost use Rattle.twofish.specs.Schedule.{every_other, s_bytes, k_word, schedule, taken, units, set_up, handed_back};
-ghost use Rattle.twofish.specs.Answers.{refusal_number, answered, counted};
+ghost use Rattle.twofish.specs.Answers.{nowhere, told, refusal_number, refusal_location, refused_answer, answered, counted};
 ghost use Rattle.twofish.specs.declared.Refusal.TheVariants.{KeyLength};
 
-// Why a call is refused, by document 01's number.
+// The bank and the page that a record is of.
+#[derive(Clone, Copy, Debug, PartialEq, Eq)]
+pub struct Location {
+    pub bank: u32,
+    pub page: u32,
+}
+
+// Why a call is refused.
 #[derive(Clone, Copy, Debug, PartialEq, Eq)]
 pub enum Refusal {
     // The key is not 16, 24 or 32 bytes.
-    KeyLength = 1,
+    KeyLength,
     // The schedule's start is above 2.
-    Start = 2,
+    Start,
     // The buffer is not a block of 16 bytes.
-    BlockLength = 3,
+    BlockLength,
     // Pages or banks is 0 or above 256.
-    Geometry = 4,
+    Geometry,
     // The image is not as long as its records.
-    ImageLength = 5,
+    ImageLength,
     // The bank, page or offset lies outside the geometry.
-    Place = 6,
+    Place,
     // The length is 0, above 256 or past the page's end.
-    Length = 7,
-    // The record's first block does not decipher to the place block.
-    Record = 8,
+    Length,
+    // The record's first block deciphers to no place block.
+    Record,
     // A patch of a list begins or ends outside the bytes that are lent.
-    Outside = 9,
+    Outside,
     // A list has more than 64 patches.
-    TooMany = 10,
+    TooMany,
+    // The record's first block deciphers to the place block of another place.
+    Elsewhere(Location),
 }
 
 impl From<Refusal> for u32 {
     ghost from_gives = { λ refusal n. n ≡ refusal_number refusal };
 
-    // The number that document 01 gives it.
+    // Its number, as documents 01 and 02 have it.
     fn from(refusal: Refusal) -> u32 {
-        refusal as u32
+        match refusal {
+            Refusal::KeyLength => 1,
+            Refusal::Start => 2,
+            Refusal::BlockLength => 3,
+            Refusal::Geometry => 4,
+            Refusal::ImageLength => 5,
+            Refusal::Place => 6,
+            Refusal::Length => 7,
+            Refusal::Record => 8,
+            Refusal::Outside => 9,
+            Refusal::TooMany => 10,
+            Refusal::Elsewhere(_) => 11,
+        }
     }
 }
 
-// What a C caller is answered: the number of the refusal, or 0, and a count. A struct of numbers, since C has no `Result`.
+impl Refusal {
+    // The place whose record it is, where the refusal says one; else bank 0 and page 0.
+    pub fn location(self) -> Location
+        ensures { result ≡ refusal_location self }
+    {
+        match self {
+            Refusal::Elsewhere(location) => location,
+            _ => Location { bank: 0, page: 0 },
+        }
+    }
+}
+
+// What a C caller is answered: the number of the refusal, or 0, a count, and the place whose record a refusal found. A struct of numbers, since C has
+// no `Result`.
 #[repr(C)]
 #[derive(Clone, Copy, Debug, PartialEq, Eq)]
 pub struct Answer {
     pub number: u32,
     pub count: u32,
+    pub bank: u32,
+    pub page: u32,
+}
+
+impl From<Refusal> for Answer {
+    ghost from_gives = { λ refusal answer. answer ≡ refused_answer refusal };
+
+    // A refusal counts nothing.
+    fn from(refusal: Refusal) -> Answer {
+        let Location { bank, page } = refusal.location();
+        Answer {
+            number: refusal.into(),
+            count: 0,
+            bank,
+            page,
+        }
+    }
+}
+
+impl Answer {
+    // What a call that is done answers.
+    fn done(count: u32) -> Answer
+        ensures { result ≡ told 0 count nowhere }
+    {
+        Answer {
+            number: 0,
+            count,
+            bank: 0,
+            page: 0,
+        }
+    }
 }
 
 impl From<Result<(), Refusal>> for Answer {
     ghost from_gives = { λ outcome answer. answer ≡ answered outcome };
 
     fn from(outcome: Result<(), Refusal>) -> Answer {
-        let number = match outcome {
-            Ok(()) => 0,
+        match outcome {
+            Ok(()) => Answer::done(0),
             Err(refusal) => refusal.into(),
-        };
-        Answer { number, count: 0 }
+        }
     }
 }
 
@@ -71,11 +135,8 @@ impl From<Result<u32, Refusal>> for Answer {
 
     fn from(outcome: Result<u32, Refusal>) -> Answer {
         match outcome {
-            Ok(count) => Answer { number: 0, count },
-            Err(refusal) => Answer {
-                number: refusal.into(),
-                count: 0,
-            },
+            Ok(count) => Answer::done(count),
+            Err(refusal) => refusal.into(),
         }
     }
 }

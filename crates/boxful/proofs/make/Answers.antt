@@ -6,10 +6,10 @@ use Rattle.spans.specs.Refusals.{leaves}
 use Rattle.spans.proofs.BytesLaws.{AllBytes}
 use Rattle.twofish.specs.declared.Twofish.{Twofish}
 use Rattle.sealed.specs.declared.Geometry.{Geometry}
-use Rattle.twofish.specs.Answers.{answer}
+use Rattle.twofish.specs.Answers.{answer_at}
 use Rattle.twofish.proofs.AnswerLaws.{counted-injective}
 use Rattle.block.specs.Block.{enciphered, deciphered}
-use Rattle.sealed.specs.Image.{access_number, patched_in, patch_count}
+use Rattle.sealed.specs.Image.{seen_at, other_place, access_number, access_answer, patched_in, patch_count}
 use Rattle.boxful.specs.declared.Patch.{Patch}
 use Rattle.boxful.specs.Boxful.{written, item_number}
 use Rattle.boxful.proofs.ListLaws.{item_taken}
@@ -32,7 +32,7 @@ taken t G image lent p e =
     ap (λ (l : List ℕ). access_number t G image p.bank p.offset (length l)) (part_written p lent) ∙ sym (taken_number t G image lent p e)
 
 pub returns : goal.returns
-unfolding answer leaves
+unfolding access_answer answer_at leaves
 returns c =
     let a = c.args in
     let t = a.t in
@@ -48,7 +48,7 @@ returns c =
       count =
           c.unwrap_or.ensures
           ∙ ap (λ r. result_unwrap_or r 0)
-          (counted-injective c.patch.result (Ok (patch_count a.patch.offset)) (c.patch.ensures.outcome ∙ ap (λ (n : ℕ). answer n (patch_count a.patch.offset)) done));
+          (counted-injective c.patch.result (Ok (patch_count a.patch.offset)) (c.patch.ensures.outcome ∙ ap (λ (n : ℕ). answer_at (other_place (seen_at t a.geometry a.image.now a.patch.bank a.patch.offset)) n (patch_count a.patch.offset)) done));
       image = made;
       said =
           λ q.

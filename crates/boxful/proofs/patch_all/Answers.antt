@@ -58,7 +58,7 @@ returns-clause-outcome c =
     let l = c.loop-i in
     let none_more = ap all_counted (drop_all l.i c.args.patches.now (omega arith)) in
     let all : l.count ≡ all_counted c.args.patches.now = omega (arith, none_more, l.invariant.2) in
-    ap (λ (n : ℕ). record { number = 0; count = n; place = 0 }) all
+    ap (λ (n : ℕ). record { number = 0; count = n; place = 0; bank = 0; page = 0 }) all
     ∙ ap (λ (j : Judged). list_answer j (all_counted c.args.patches.now)) (sym c.in_ok-judge.ensures)
 
 pub returns-clause-image : goal.returns-clause-image

@@ -1,13 +1,11 @@
--- `listing::write_line` meets its contract: the place, and then the word with its line feed.
-use Rattle.std.proofs.Common.{subst}
-use Rattle.std.proofs.lemmas.Result.{on_ok_weaker}
-use Rattle.std.specs.Io.KnownBytes.{Appends}
-use Rattle.std.proofs.KnownBytes.{Appends-trans}
-use Rattle.listing.proofs.ListingLaws.{line-written}
+-- `listing::write_line` meets its contract: the place, a space, and what is said.
+use Rattle.std.proofs.Common.{List, ◌∷◌, ◌++◌, ℕ, ap}
+use Rattle.listing.specs.Listing.{said, ended, line}
+use Rattle.listing.proofs.StreamLaws.{Appends-three}
 use Rattle.listing.proofs.write_line.Goals as goal
 
 pub returns : goal.returns
+unfolding line
 returns g c =
-    let a = c.args in
-    let text = line-written a.bank a.page a.verdict _ _ _ c.two_digits-bank.ensures c.two_digits-page.ensures c.word.ensures in
-    on_ok_weaker c.writeln.result (λ p. subst (Appends _ _) text (Appends-trans _ _ _ _ _ c.in_ok-write_all.ensures.bytes p)) c.writeln.ensures.bytes
+    Appends-three c.write_verdict.result _ _ _ _ _ _ _ _ (ap (λ (p : List ℕ). p ++ 32 ∷ ended (said c.args.verdict)) c.place_text.ensures)
+    c.in_ok-write_all.ensures.bytes c.in_ok-write_all-2.ensures.bytes c.write_verdict.ensures

@@ -1,12 +1,16 @@
 -- `sealed::find` meets its contract: the first refusal in order, or where the record begins.
-use Rattle.std.proofs.Common.{ℕ, length, ◌*◌, ◌/◌, sym, ap, ap₂, arith}
+use Rattle.std.proofs.Common.{◌≡◌, ℕ, ◌+◌, ◌-◌, ◌*◌, ◌/◌, length, take, drop, ap, ◌∙◌, arith}
 use Rattle.std.proofs.lemmas.Result.{err_from_is_err_and}
-use Rattle.twofish.specs.Answers.{answer}
-use Rattle.twofish.proofs.AnswerLaws.{never_done}
-use Rattle.sealed.specs.Image.{slot}
+use Rattle.spans.specs.Refusals.{given}
+use Rattle.twofish.specs.Answers.{answer_at}
+use Rattle.block.specs.Block.{deciphered}
+use Rattle.sealed.specs.declared.Seen.{Seen}
+use Rattle.sealed.specs.declared.Seen.TheVariants.{Own, Other, NoPlace}
+use Rattle.sealed.specs.Record.{whose}
+use Rattle.sealed.specs.Image.{slot, look_refusals, other_place, access_answer}
 use Rattle.sealed.proofs.ImageLaws.{slice-length}
-use Rattle.sealed.proofs.AccessLaws.{Opens, early, of_another, of_place, opens}
-use Rattle.sealed.proofs.OutcomeLaws.{refused_answer}
+use Rattle.sealed.proofs.AccessLaws.{Opens, early, decided, opens}
+use Rattle.sealed.proofs.OutcomeLaws.{done_count}
 use Rattle.sealed.proofs.find.Goals as goal
 use Rattle.sealed.proofs.find.Goals.{In_ok-judged}
 
@@ -14,15 +18,13 @@ pub returns-in_err-judged : goal.returns-in_err-judged
 returns-in_err-judged c =
     let a = c.args in
     let p = err_from_is_err_and c.from_residual.result c.from_residual.ensures.1 in
-    let e = c.in_err-judged.field-0.0 in
     rw (p.1, p.2)
-    (refused_answer e
-    (early _ _ a.image.now _ _ _ c.offset_reached-placed.ensures c.within_page.ensures _ (λ z. never_done e (sym z)) c.in_err-judged.ensures)
+    (early _ _ a.image.now _ _ _ c.offset_reached-placed.ensures c.within_page.ensures c.in_err-judged.field-0.0 c.in_err-judged.ensures
     (272 * slot a.geometry a.bank (a.offset / 256)))
 
 -- what holds where the call is taken up to its look
 taken : (c : In_ok-judged) → Opens c.args.t c.args.geometry (length c.args.image.now) c.args.bank c.args.offset c.args.n
-taken c = opens c.offset_reached-placed.ensures c.within_page.ensures c.in_ok-judged.ensures
+taken c = opens c.offset_reached-placed.ensures c.within_page.ensures (done_count _ _ _ _ c.in_ok-judged.ensures).0
 
 pub record_start-at-requires : goal.record_start-at-requires
 record_start-at-requires c =
@@ -39,28 +41,37 @@ overflow_add-at c =
     let k = taken (goal.at.overflow_add-at c).In_ok-judged in
     omega (arith, k.room, k.small, c.record_start-at.ensures)
 
-pub slice_bounds-looked-end : goal.slice_bounds-looked-end
-slice_bounds-looked-end c =
-    let k = taken (goal.at.slice_bounds-looked-end c).In_ok-judged in
+pub slice_bounds-look-end : goal.slice_bounds-look-end
+slice_bounds-look-end c =
+    let k = taken (goal.at.slice_bounds-look-end c).In_ok-judged in
     omega (arith, k.room, c.record_start-at.ensures)
 
-pub looked-requires : goal.looked-requires
-looked-requires c =
+pub look-requires : goal.look-requires
+look-requires c =
     let a = c.args in
-    let k = taken (goal.at.looked-requires c).In_ok-judged in
+    let k = taken (goal.at.look-requires c).In_ok-judged in
     slice-length a.geometry a.bank (a.offset / 256) c.record_start-at.result a.image.now c.record_start-at.ensures k.room
 
-pub returns-then-not-looked : goal.returns-then-not-looked
-unfolding answer
-returns-then-not-looked c =
+-- the look decides, and what is answered counts where the record begins
+seen :
+    (c : In_ok-judged) (at : ℕ) (place : at ≡ 272 * slot c.args.geometry c.args.bank (c.args.offset / 256)) (s : Seen)
+    → s ≡ whose (deciphered c.args.t) c.args.bank (c.args.offset / 256) (take (at + 272 - at) (drop at c.args.image.now))
+    → answer_at (other_place s) (given (look_refusals s)) at
+    ≡ access_answer c.args.t c.args.geometry c.args.image.now c.args.bank c.args.offset c.args.n (272 * slot c.args.geometry c.args.bank (c.args.offset / 256))
+seen c at place s l =
     let a = c.args in
-    ap (λ (n : ℕ). answer n (272 * slot a.geometry a.bank (a.offset / 256)))
-    (of_another _ _ a.image.now _ _ _ c.offset_reached-placed.ensures c.within_page.ensures c.in_ok-judged.ensures _ c.record_start-at.ensures c.looked.ensures c.if-not-looked.true)
+    ap (answer_at (other_place s) (given (look_refusals s))) place
+    ∙ decided a.t a.geometry a.image.now a.bank a.offset a.n c.offset_reached-placed.ensures c.within_page.ensures (done_count _ _ _ _ c.in_ok-judged.ensures).0
+    at place l (272 * slot a.geometry a.bank (a.offset / 256))
 
-pub returns : goal.returns
-unfolding answer
-returns c =
-    let a = c.args in
-    ap₂ answer
-    (of_place _ _ a.image.now _ _ _ c.offset_reached-placed.ensures c.within_page.ensures c.in_ok-judged.ensures _ c.record_start-at.ensures c.looked.ensures c.if-not-looked.false)
-    c.record_start-at.ensures
+pub returns-in-Own : goal.returns-in-Own
+unfolding given look_refusals answer_at
+returns-in-Own c = seen (goal.at.returns-in-Own c).In_ok-judged _ c.record_start-at.ensures Own c.in-Own.ensures
+
+pub returns-in-Other : goal.returns-in-Other
+unfolding given look_refusals answer_at
+returns-in-Other c = seen (goal.at.returns-in-Other c).In_ok-judged _ c.record_start-at.ensures (Other c.in-Other.location) c.in-Other.ensures
+
+pub returns-in-NoPlace : goal.returns-in-NoPlace
+unfolding given look_refusals answer_at
+returns-in-NoPlace c = seen (goal.at.returns-in-NoPlace c).In_ok-judged _ c.record_start-at.ensures NoPlace c.in-NoPlace.ensures

@@ -4,27 +4,28 @@ use Rattle.std.proofs.lemmas.Result.{err_from_is_err_and}
 use Rattle.spans.specs.Parts.{splice}
 use Rattle.spans.specs.Refusals.{leaves}
 use Rattle.spans.proofs.PartsLaws.{mid_splice, splice-length}
-use Rattle.twofish.specs.Answers.{answer}
 use Rattle.block.specs.Block.{enciphered, deciphered}
 use Rattle.block.proofs.ThereAndBack.{enciphered-length}
 use Rattle.sealed.specs.Cbc.{cbc, uncbc}
 use Rattle.sealed.specs.Record.{sealed, page_of}
-use Rattle.sealed.specs.Image.{record_at, sealed_in, patched_in, patch_count}
+use Rattle.sealed.specs.Image.{record_at, sealed_in, access_answer, patched_in, patch_count}
 use Rattle.sealed.proofs.OpenLaws.{page_of-length}
 use Rattle.sealed.proofs.RecordLaws.{sealed-length}
 use Rattle.sealed.proofs.PatchLaws.{patched}
 use Rattle.sealed.proofs.AccessLaws.{found}
-use Rattle.sealed.proofs.OutcomeLaws.{refused_answer, refused_leaves, refused_number}
+use Rattle.sealed.proofs.OutcomeLaws.{refused_number, recounted, refused_leaves}
 use Rattle.sealed.proofs.patch.Goals as goal
 
 pub returns-in_err-at-clause-outcome : goal.returns-in_err-at-clause-outcome
+unfolding access_answer
 returns-in_err-at-clause-outcome c =
     let p = err_from_is_err_and c.from_residual.result c.from_residual.ensures.1 in
     let e = c.in_err-at.field-0.0 in
-    rw (p.1, p.2) (refused_answer e (refused_number e _ _ c.in_err-at.ensures) (patch_count c.args.offset))
+    rw (p.1, p.2) (recounted e _ _ _ c.in_err-at.ensures (patch_count c.args.offset))
 
 pub returns-in_err-at-clause-image : goal.returns-in_err-at-clause-image
-returns-in_err-at-clause-image c = let e = c.in_err-at.field-0.0 in refused_leaves e (refused_number e _ _ c.in_err-at.ensures) _ _
+unfolding access_answer
+returns-in_err-at-clause-image c = let e = c.in_err-at.field-0.0 in refused_leaves e (refused_number e _ _ _ c.in_err-at.ensures) _ _
 
 pub overflow_add-blocks : goal.overflow_add-blocks
 overflow_add-blocks c = let k = found c.in_ok-at.ensures in omega (arith, k.call.room, k.call.small, k.place)
@@ -39,8 +40,8 @@ pub patch_record-requires : goal.patch_record-requires
 patch_record-requires c = let k = found c.in_ok-at.ensures in (record { keys = λ i. search rules }, k.long, k.call.some, k.call.inside)
 
 pub returns-clause-outcome : goal.returns-clause-outcome
-unfolding answer patch_count
-returns-clause-outcome c = ap (λ (n : ℕ). answer n (16 - c.args.offset % 256 / 16)) (found c.in_ok-at.ensures).done
+unfolding patch_count
+returns-clause-outcome c = (found c.in_ok-at.ensures).answered (16 - c.args.offset % 256 / 16)
 
 pub returns-clause-image : goal.returns-clause-image
 unfolding leaves patched_in sealed_in

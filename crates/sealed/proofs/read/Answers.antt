@@ -2,22 +2,23 @@
 use Rattle.std.proofs.Common.{ℕ, ◌%◌, List, length, take, drop, ap, ◌∙◌, arith}
 use Rattle.std.proofs.lemmas.Result.{err_from_is_err_and}
 use Rattle.spans.specs.Refusals.{leaves}
-use Rattle.twofish.specs.Answers.{answer}
 use Rattle.block.specs.Block.{deciphered}
 use Rattle.sealed.specs.Record.{page_of}
-use Rattle.sealed.specs.Image.{read_from}
+use Rattle.sealed.specs.Image.{read_from, access_answer}
 use Rattle.sealed.proofs.AccessLaws.{found}
-use Rattle.sealed.proofs.OutcomeLaws.{refused_answer, refused_leaves, refused_number}
+use Rattle.sealed.proofs.OutcomeLaws.{refused_number, recounted, refused_leaves}
 use Rattle.sealed.proofs.read.Goals as goal
 
 pub returns-in_err-at-clause-outcome : goal.returns-in_err-at-clause-outcome
+unfolding access_answer
 returns-in_err-at-clause-outcome c =
     let p = err_from_is_err_and c.from_residual.result c.from_residual.ensures.1 in
     let e = c.in_err-at.field-0.0 in
-    rw (p.1, p.2) (refused_answer e (refused_number e _ _ c.in_err-at.ensures) 0)
+    rw (p.1, p.2) (recounted e _ _ _ c.in_err-at.ensures 0)
 
 pub returns-in_err-at-clause-out : goal.returns-in_err-at-clause-out
-returns-in_err-at-clause-out c = let e = c.in_err-at.field-0.0 in refused_leaves e (refused_number e _ _ c.in_err-at.ensures) _ _
+unfolding access_answer
+returns-in_err-at-clause-out c = let e = c.in_err-at.field-0.0 in refused_leaves e (refused_number e _ _ _ c.in_err-at.ensures) _ _
 
 pub invariant_of-cipher : goal.invariant_of-cipher
 invariant_of-cipher c = record { start = (found c.in_ok-at.ensures).call.start }
@@ -32,8 +33,7 @@ pub open-requires : goal.open-requires
 open-requires c = let k = found c.in_ok-at.ensures in (k.long, k.call.some, k.call.inside)
 
 pub returns-clause-outcome : goal.returns-clause-outcome
-unfolding answer
-returns-clause-outcome c = ap (λ (n : ℕ). answer n 0) (found c.in_ok-at.ensures).done
+returns-clause-outcome c = (found c.in_ok-at.ensures).answered 0
 
 pub returns-clause-out : goal.returns-clause-out
 unfolding leaves read_from
