@@ -1,4 +1,4 @@
-/* hingefodder.h: Twofish and the sealed bank image, for a host in C.
+/* hingefodder.h: Twofish and the sealed bank image, and settings that can go back, for a host in C.
 
    An image is a row of records, one for each page of each bank: the record of page p of bank b is the one at slot b * pages + p. A record is a
    page of 256 bytes, enciphered together with its place, in 272 bytes. An image has no header, so the host keeps its geometry (pages per bank,
@@ -6,7 +6,7 @@
 
    For every call:
 
-   - A key comes as its bytes: 16, 24 or 32 of them. The library keeps nothing between calls, and takes no memory but stack.
+   - A key, where a call takes one, comes as its bytes: 16, 24 or 32 of them. The library keeps nothing between calls, and takes no memory but stack.
    - A buffer comes as a pointer and then its length. A buffer of length 0 may come with a null pointer.
    - The buffers lent to one call must not overlap.
    - Any number is taken and judged. A call that is refused answers the number of its refusal and count 0, and changes no byte of any buffer.
@@ -34,6 +34,10 @@ extern "C" {
 #define HF_BANKS_MAX 256 /* banks of an image, at most */
 #define HF_ITEMS_MAX 64  /* patches of a list, at most */
 
+#define HF_SETTINGS 32             /* settings that a store keeps */
+#define HF_STORE 8192              /* bytes of a store: so many records of 8 bytes as follow */
+#define HF_STORE_RECORDS_MAX 1024  /* records of a store, at most */
+
 /* The bytes of an image, for a geometry that is not refused. */
 #define HF_IMAGE(pages, banks) ((size_t)HF_RECORD * (size_t)(pages) * (size_t)(banks))
 
@@ -50,7 +54,12 @@ enum hf_number {
     HF_NO_PLACE = 8,     /* the record does not open to any place: another key, or changed bytes */
     HF_OUTSIDE = 9,      /* start and length of a list's item leave the bytes that are lent with it */
     HF_TOO_MANY = 10,    /* the list has more than 64 items */
-    HF_ELSEWHERE = 11    /* the record opens to another place, which the answer's bank and page say */
+    HF_ELSEWHERE = 11,   /* the record opens to another place, which the answer's bank and page say */
+
+    HF_STORE_LENGTH = 16, /* the store is not 8192 bytes, or more than 1024 records are used */
+    HF_STORE_BROKEN = 17, /* a used record breaks the layout */
+    HF_SETTING = 18,      /* the setting is above 31, or the version above the used number */
+    HF_STORE_FULL = 19    /* 1024 records are used, and one more is to be added */
 };
 
 /* `number` is one of enum hf_number; `count` is how many blocks were enciphered and written. By HF_ELSEWHERE `bank` and `page` say whose record
@@ -106,6 +115,32 @@ hf_answer hf_patch(const uint8_t *key, size_t key_length, uint32_t pages, uint32
    is refused is named: by 9, 6 (bank, offset), 7, and 8 or 11. Count is the sum of what hf_patch counts for each, 0 for an empty list. */
 hf_list_answer hf_patch_list(const uint8_t *key, size_t key_length, uint32_t pages, uint32_t banks, uint8_t *image, size_t image_length,
                              const hf_item *items, size_t items_length, const uint8_t *bytes, size_t bytes_length);
+
+/* Settings that can go back: 32 numbers in a store of 8192 bytes that the host keeps, with the number of records used in it. A new store has none
+   used, whatever its bytes, and every setting is 0. A record sets one setting, or goes back to a version, which is a number of records from the
+   first on, and makes all settings what they were after these. Each is 8 bytes: setting, kind (0 set, 1 go back), two zeros, and the value or
+   version, low byte first. These calls take no key, and judge every used record; bytes past the used ones are never looked at. */
+
+/* `used` is the number of used records from now on: one more where a record was added, and the number that was given where it was refused. */
+typedef struct hf_added {
+    uint32_t number;
+    uint32_t used;
+} hf_added;
+
+/* The values of the settings; zeros where the reading was refused. */
+typedef struct hf_reading {
+    uint32_t number;
+    uint32_t values[HF_SETTINGS];
+} hf_reading;
+
+/* Adds the record that sets a setting. Refused by 16, 17, 18 and 19. */
+hf_added hf_setting_set(uint8_t *store, size_t store_length, uint32_t used, uint32_t setting, uint32_t value);
+
+/* Adds the record that goes back to a version, from 0 to `used`. Refused by 16, 17, 18 and 19. */
+hf_added hf_setting_go_back(uint8_t *store, size_t store_length, uint32_t used, uint32_t version);
+
+/* Reads the settings of a version, from 0 to `used`. The store stays as it is. Refused by 16, 17 and 18. */
+hf_reading hf_settings_read(const uint8_t *store, size_t store_length, uint32_t used, uint32_t version);
 
 #ifdef __cplusplus
 }

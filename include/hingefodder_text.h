@@ -33,6 +33,14 @@ static inline const char *hf_text(uint32_t number)
         return "the list has more than 64 items";
     case HF_ELSEWHERE:
         return "the record opens to another place";
+    case HF_STORE_LENGTH:
+        return "the store is not 8192 bytes, or more than 1024 records are used";
+    case HF_STORE_BROKEN:
+        return "a used record of the store breaks the layout";
+    case HF_SETTING:
+        return "the setting is above 31, or the version above the used number";
+    case HF_STORE_FULL:
+        return "the store is full";
     default:
         return "a number that this library does not answer";
     }

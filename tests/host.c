@@ -218,6 +218,68 @@ static void find_another_place(void)
     WANT(memcmp(before, room, SIZE) == 0 && all(out, sizeof out, 0x55));
 }
 
+static void added(hf_added answer, uint32_t number, uint32_t used, int line)
+{
+    want(answer.number == number && answer.used == used, line);
+}
+#define ADDED(call, used) added((call), HF_DONE, (used), __LINE__)
+#define NOT_ADDED(call, number, used) added((call), (number), (used), __LINE__)
+
+/* The setting in every version from 0 on, and setting 4, which is never set. */
+static void versions(const uint8_t *store, uint32_t used, uint32_t setting, const uint32_t *values, int line)
+{
+    for (uint32_t version = 0; version <= used; version++) {
+        hf_reading reading = hf_settings_read(store, HF_STORE, used, version);
+        want(reading.number == HF_DONE && reading.values[setting] == values[version] && reading.values[4] == 0, line);
+    }
+}
+
+static void no_reading(hf_reading reading, uint32_t number, int line)
+{
+    int zeros = 1;
+    for (int i = 0; i < HF_SETTINGS; i++)
+        zeros &= reading.values[i] == 0;
+    want(reading.number == number && zeros, line);
+}
+#define NO_READING(call, number) no_reading((call), (number), __LINE__)
+
+/* Settings in a store at any address, whatever its bytes were: their records, every version, and each refusal with nothing changed. */
+static void keep_settings(size_t at)
+{
+    static const uint8_t laid[] = {31, 0, 0, 0, 4, 3, 2, 1, 31, 0, 0, 0, 7, 0, 0, 0, 0, 1, 0, 0, 1, 0, 0, 0, 0, 1, 0, 0, 3, 0, 0, 0};
+    static const uint32_t values[] = {0, 0x01020304, 7, 0x01020304, 0x01020304};
+    static uint8_t stores[HF_STORE + PLACES], kept[sizeof stores];
+    uint8_t *store = stores + at;
+    memset(stores, 0xee, sizeof stores);
+    ADDED(hf_setting_set(store, HF_STORE, 0, 31, 0x01020304), 1);
+    ADDED(hf_setting_set(store, HF_STORE, 1, 31, 7), 2);
+    ADDED(hf_setting_go_back(store, HF_STORE, 2, 1), 3);
+    ADDED(hf_setting_go_back(store, HF_STORE, 3, 3), 4);
+    WANT(all(stores, at, 0xee) && memcmp(store, laid, sizeof laid) == 0 && all(store + sizeof laid, sizeof stores - at - sizeof laid, 0xee));
+    versions(store, 4, 31, values, __LINE__);
+
+    memcpy(kept, stores, sizeof stores);
+    NOT_ADDED(hf_setting_set(NULL, 0, 9, 99, 0), HF_STORE_LENGTH, 9);
+    NOT_ADDED(hf_setting_set(store, HF_STORE - 1, 4, 99, 0), HF_STORE_LENGTH, 4);
+    NOT_ADDED(hf_setting_go_back(store, HF_STORE, HF_STORE_RECORDS_MAX + 1, UINT32_MAX), HF_STORE_LENGTH, HF_STORE_RECORDS_MAX + 1);
+    NOT_ADDED(hf_setting_set(store, HF_STORE, 5, 99, 0), HF_STORE_BROKEN, 5); /* the fifth record is no record */
+    NOT_ADDED(hf_setting_set(store, HF_STORE, 4, HF_SETTINGS, 0), HF_SETTING, 4);
+    NOT_ADDED(hf_setting_go_back(store, HF_STORE, 4, 5), HF_SETTING, 4);
+    NO_READING(hf_settings_read(store, HF_STORE + 1, 4, 9), HF_STORE_LENGTH);
+    NO_READING(hf_settings_read(store, HF_STORE, UINT32_MAX, 0), HF_STORE_LENGTH);
+    NO_READING(hf_settings_read(store, HF_STORE, 5, 9), HF_STORE_BROKEN);
+    NO_READING(hf_settings_read(store, HF_STORE, 4, 5), HF_SETTING);
+    WANT(memcmp(kept, stores, sizeof stores) == 0);
+
+    for (uint32_t used = 4; used < HF_STORE_RECORDS_MAX; used++)
+        ADDED(hf_setting_set(store, HF_STORE, used, used % 4, used), used + 1);
+    memcpy(kept, stores, sizeof stores);
+    NOT_ADDED(hf_setting_go_back(store, HF_STORE, HF_STORE_RECORDS_MAX, 0), HF_STORE_FULL, HF_STORE_RECORDS_MAX);
+    NOT_ADDED(hf_setting_set(store, HF_STORE, HF_STORE_RECORDS_MAX, HF_SETTINGS, 0), HF_SETTING, HF_STORE_RECORDS_MAX);
+    WANT(memcmp(kept, stores, sizeof stores) == 0);
+    WANT(hf_settings_read(store, HF_STORE, HF_STORE_RECORDS_MAX, HF_STORE_RECORDS_MAX).values[3] == 1023);
+}
+
 /* The block of zeros under the key of zeros, whose enciphered form is published. */
 static void turn_a_block(void)
 {
@@ -242,8 +304,10 @@ int main(void)
     make_long_list();
     meet_refused_lists();
     find_another_place();
+    for (size_t at = 0; at < PLACES; at++)
+        keep_settings(at);
     turn_a_block();
-    for (uint32_t number = HF_DONE; number <= HF_ELSEWHERE + 1; number++)
+    for (uint32_t number = HF_DONE; number <= HF_STORE_FULL + 1; number++)
         WANT(hf_text(number)[0] != '\0');
     return wrong;
 }

@@ -40,7 +40,7 @@ fn guard(i: usize) -> u8 {
 }
 
 /// A buffer as it is lent: guard bytes, the buffer, guard bytes.
-struct Lent {
+pub(crate) struct Lent {
     all: Vec<u8>,
     start: usize,
     null: bool,
@@ -48,7 +48,7 @@ struct Lent {
 
 impl Lent {
     /// Where `shift` is odd, an empty buffer is a null pointer.
-    fn new(bytes: &[u8], shift: usize) -> Lent {
+    pub(crate) fn new(bytes: &[u8], shift: usize) -> Lent {
         let start = GUARD + shift;
         let mut all = Vec::with_capacity(start + bytes.len() + GUARD);
         all.extend((0..start).map(guard));
@@ -58,12 +58,12 @@ impl Lent {
         Lent { all, start, null }
     }
 
-    fn pointer(&mut self) -> *mut u8 {
+    pub(crate) fn pointer(&mut self) -> *mut u8 {
         if self.null { std::ptr::null_mut() } else { self.all[self.start..].as_mut_ptr() }
     }
 
     /// The buffer copied back, and the guard bytes that are no longer as they were.
-    fn back(&self, name: &str, bytes: &mut [u8], damage: &mut Vec<String>) {
+    pub(crate) fn back(&self, name: &str, bytes: &mut [u8], damage: &mut Vec<String>) {
         let end = self.start + bytes.len();
         bytes.copy_from_slice(&self.all[self.start..end]);
         for i in (0..self.start).chain(end..self.all.len()) {

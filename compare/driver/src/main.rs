@@ -5,6 +5,7 @@ mod fixed;
 mod list;
 mod tally;
 
+use driver::settings;
 use std::env;
 use std::process::ExitCode;
 use tally::Check;
@@ -46,6 +47,7 @@ fn case(seed: u64, check: &mut Check) -> Result<(), String> {
     cases::single(seed, check)?;
     cases::list(seed, check)?;
     cases::series(seed, check)?;
+    settings::series(seed, &mut check.settings)?;
     if seed.is_multiple_of(LARGE) {
         cases::large(seed, check)?;
     }

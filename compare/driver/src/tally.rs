@@ -2,7 +2,7 @@
 
 use driver::call::{Answer, Call, Entry, Item, hex};
 use driver::random::Random;
-use driver::{library, oracle};
+use driver::{library, oracle, settings};
 use std::collections::BTreeSet;
 use std::fmt::Write;
 
@@ -35,6 +35,8 @@ pub struct Check {
     calls: [u64; KINDS.len()],
     answers: [[u64; 12]; ENTRIES.len()],
     lengths: BTreeSet<(usize, usize)>,
+    /// Which answers the calls on a store of settings gave.
+    pub settings: [u64; 20],
 }
 
 impl Check {
@@ -78,6 +80,12 @@ impl Check {
             text.pop();
             text.push('\n');
         }
+        write!(text, "Settings:").unwrap();
+        for number in settings::NUMBERS {
+            write!(text, " number {number}: {},", self.settings[number]).unwrap();
+        }
+        text.pop();
+        text.push('\n');
         text
     }
 
@@ -90,7 +98,8 @@ impl Check {
                 }
             }
         }
-        None
+        let unmet = settings::NUMBERS.into_iter().find(|&number| self.settings[number] == 0)?;
+        Some(format!("no call on a store of settings was answered by {unmet}"))
     }
 }
 

@@ -1,4 +1,5 @@
-// What a C host links: the two block directions, and seal, read, patch and a list of patches on a sealed image, each with the key's bytes.
+// What a C host links: the two block directions, and seal, read, patch and a list of patches on a sealed image, each with the key's bytes; and the
+// settings that can go back.
 #![tactic(auto)]
 
 ghost use Rattle.std.specs.Prelude.{◌≡◌, length};
@@ -7,10 +8,14 @@ ghost use Rattle.twofish.specs.Answers.{answer, answer_at};
 ghost use Rattle.block.specs.Block.{enciphered, deciphered, block_number};
 ghost use Rattle.sealed.specs.Image.{seal_number, seen_at, other_place, access_number, patch_count, sealed_in, read_from, patched_in};
 ghost use Rattle.boxful.specs.Boxful.{judged, all_patched, all_counted, list_answer};
+ghost use Rattle.settings.specs.declared.Entry.TheVariants.{Set, GoBack};
+ghost use Rattle.settings.specs.Records.{record_at, state};
+ghost use Rattle.settings.specs.Answers.{add_number, add_answer, read_number, read_answer, written};
 ghost use Rattle.host.specs.Host.{schedule_of, keyed, keyed_list, geometry};
 
 use boxful::{ListAnswer, Patch, Refused};
 use sealed::Geometry;
+use settings::{Added, Reading};
 use twofish::{Answer, Twofish};
 
 // The block enciphered where it lies; a refusal leaves every byte.
@@ -115,4 +120,30 @@ pub extern "C" fn hf_patch_list(
         Ok(t) => boxful::patch_all(t, Geometry { pages, banks }, image, patches, bytes).into(),
         Err(refusal) => Err(Refused { refusal, place: 0 }).into(),
     }
+}
+
+// A setting set to a value: a record more in the store. A refusal leaves every byte.
+#[unsafe(no_mangle)]
+pub extern "C" fn hf_setting_set(store: &mut [u8], used: u32, setting: u32, value: u32) -> Added
+    ensures outcome { result ≡ add_answer (add_number store.old used (Set setting value)) used }
+    ensures store { store.new ≡ leaves (add_number store.old used (Set setting value)) (written (Set setting value) used store.old) store.old }
+{
+    settings::set(store, used, setting, value).into()
+}
+
+// The settings made what they were after the first records, so many as the version says: a record more. A refusal leaves every byte.
+#[unsafe(no_mangle)]
+pub extern "C" fn hf_setting_go_back(store: &mut [u8], used: u32, version: u32) -> Added
+    ensures outcome { result ≡ add_answer (add_number store.old used (GoBack version)) used }
+    ensures store { store.new ≡ leaves (add_number store.old used (GoBack version)) (written (GoBack version) used store.old) store.old }
+{
+    settings::go_back(store, used, version).into()
+}
+
+// The values of the settings after the first records, so many as the version says.
+#[unsafe(no_mangle)]
+pub extern "C" fn hf_settings_read(store: &[u8], used: u32, version: u32) -> Reading
+    ensures { result ≡ read_answer (read_number store.now used version) (state (record_at store.now) version) }
+{
+    settings::read(store, used, version).into()
 }

@@ -1,0 +1,11 @@
+pub mod RecordLaws
+pub mod StateLaws
+pub mod WalkLaws
+pub mod AnswerLaws
+pub mod Unique
+pub mod FrontLaws
+pub mod HoldsLaws
+pub mod Series
+pub mod Promised
+pub mod Past
+pub mod Exactly
