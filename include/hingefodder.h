@@ -8,7 +8,7 @@
 
    - A key, where a call takes one, comes as its bytes: 16, 24 or 32 of them. The library keeps nothing between calls, and takes no memory but stack.
    - A buffer comes as a pointer and then its length. A buffer of length 0 may come with a null pointer.
-   - The buffers lent to one call must not overlap.
+   - The buffers lent to one call must not overlap; two that are only read may.
    - Any number is taken and judged. A call that is refused answers the number of its refusal and count 0, and changes no byte of any buffer.
      Where several refusals hold, the one that the call's text below names first is given.
    - Erasing a key after use is the host's own task: its own copy, and what the call left on the stack below the host's frame.
@@ -115,6 +115,36 @@ hf_answer hf_patch(const uint8_t *key, size_t key_length, uint32_t pages, uint32
    is refused is named: by 9, 6 (bank, offset), 7, and 8 or 11. Count is the sum of what hf_patch counts for each, 0 for an empty list. */
 hf_list_answer hf_patch_list(const uint8_t *key, size_t key_length, uint32_t pages, uint32_t banks, uint8_t *image, size_t image_length,
                              const hf_item *items, size_t items_length, const uint8_t *bytes, size_t bytes_length);
+
+/* What changed in a bank between two images of one key and geometry: the pages that can be read in both and whose plain bytes differ. Page p is bit
+   p % 64 of masks[p / 64], and `changed` counts them. All zeros beside its number where the report was refused. */
+typedef struct hf_changes {
+    uint32_t number;
+    uint32_t changed;
+    uint64_t masks[4];
+} hf_changes;
+
+/* How many slots of two images can be read in both and are the same, how many changed, and how many cannot be read in one of them (8 or 11). They
+   add up to all slots. All zeros beside its number where the totals were refused. */
+typedef struct hf_totals {
+    uint32_t number;
+    uint32_t same;
+    uint32_t changed;
+    uint32_t unreadable;
+} hf_totals;
+
+#define HF_NO_PAGE 256 /* what hf_next_changed answers where there is none */
+
+/* Compares a bank of two images, which stay as they are. Refused by 1, 4, 5 (either image) and 6 (bank). */
+hf_changes hf_compare_bank(const uint8_t *key, size_t key_length, uint32_t pages, uint32_t banks, const uint8_t *old_image, size_t old_length,
+                           const uint8_t *new_image, size_t new_length, uint32_t bank);
+
+/* Compares all slots of two images, which stay as they are. Refused by 1, 4 and 5 (either image). */
+hf_totals hf_compare_image(const uint8_t *key, size_t key_length, uint32_t pages, uint32_t banks, const uint8_t *old_image, size_t old_length,
+                           const uint8_t *new_image, size_t new_length);
+
+/* The next changed page of a report from page `from` on, that page included, or HF_NO_PAGE. Never refused. */
+uint32_t hf_next_changed(hf_changes changes, uint32_t from);
 
 /* Settings that can go back: 32 numbers in a store of 8192 bytes that the host keeps, with the number of records used in it. A new store has none
    used, whatever its bytes, and every setting is 0. A record sets one setting, or goes back to a version, which is a number of records from the

@@ -218,6 +218,59 @@ static void find_another_place(void)
     WANT(memcmp(before, room, SIZE) == 0 && all(out, sizeof out, 0x55));
 }
 
+/* Two images: a page that changed at each end of the first mask's part of a bank, one that is another place's, one of no place, and the rest. */
+static void compare_images(void)
+{
+    enum { WIDE = 65, LONG = HF_IMAGE(WIDE, 2) };
+    static uint8_t old_image[LONG], new_image[LONG];
+    hf_changes changes;
+    hf_totals totals;
+    for (uint32_t slot = 0; slot < 2 * WIDE; slot++)
+        DONE(hf_seal(key, 24, WIDE, 2, old_image, LONG, slot / WIDE, slot % WIDE, plain, HF_PAGE), 17);
+    memcpy(new_image, old_image, LONG);
+    changes = hf_compare_bank(key, 24, WIDE, 2, old_image, LONG, old_image, LONG, 1);
+    WANT(changes.number == HF_DONE && changes.changed == 0 && hf_next_changed(changes, 0) == HF_NO_PAGE);
+    DONE(hf_patch(key, 24, WIDE, 2, new_image, LONG, 1, 0x0000, plain + 1, 1), 16);
+    DONE(hf_patch(key, 24, WIDE, 2, new_image, LONG, 1, 0x3fff, plain, 1), 1);
+    DONE(hf_patch(key, 24, WIDE, 2, new_image, LONG, 1, 0x4080, plain, 1), 8);
+    memcpy(new_image + 3 * HF_RECORD, old_image, HF_RECORD);
+    new_image[4 * HF_RECORD] ^= 1;
+    changes = hf_compare_bank(key, 24, WIDE, 2, old_image, LONG, new_image, LONG, 1);
+    WANT(changes.number == HF_DONE && changes.changed == 3 && changes.masks[0] == (1 | (uint64_t)1 << 63) && changes.masks[1] == 1 &&
+         changes.masks[2] == 0 && changes.masks[3] == 0);
+    WANT(hf_next_changed(changes, 0) == 0 && hf_next_changed(changes, 1) == 63 && hf_next_changed(changes, 64) == 64 &&
+         hf_next_changed(changes, 65) == HF_NO_PAGE && hf_next_changed(changes, UINT32_MAX) == HF_NO_PAGE);
+    totals = hf_compare_image(key, 24, WIDE, 2, old_image, LONG, new_image, LONG);
+    WANT(totals.number == HF_DONE && totals.same == 2 * WIDE - 5 && totals.changed == 3 && totals.unreadable == 2);
+}
+
+/* Every number in a report is 0 where it is refused. */
+static void refused_report(hf_changes changes, uint32_t number, int line)
+{
+    uint64_t masks = changes.masks[0] | changes.masks[1] | changes.masks[2] | changes.masks[3];
+    want(changes.number == number && changes.changed == 0 && masks == 0, line);
+}
+static void refused_totals(hf_totals totals, uint32_t number, int line)
+{
+    want(totals.number == number && totals.same == 0 && totals.changed == 0 && totals.unreadable == 0, line);
+}
+#define NO_REPORT(call, number) refused_report((call), (number), __LINE__)
+#define NO_TOTALS(call, number) refused_totals((call), (number), __LINE__)
+
+static void refuse_reports(void)
+{
+    seal_all();
+    NO_REPORT(hf_compare_bank(NULL, 0, 0, 0, NULL, 0, NULL, 0, 9), HF_KEY_LENGTH);
+    NO_REPORT(hf_compare_bank(key, 16, 0, 0, NULL, 0, NULL, 0, 9), HF_GEOMETRY);
+    NO_REPORT(hf_compare_bank(key, 16, PAGES, BANKS, room, SIZE - 1, room, SIZE, 9), HF_IMAGE_LENGTH);
+    NO_REPORT(hf_compare_bank(key, 16, PAGES, BANKS, room, SIZE, NULL, 0, 9), HF_IMAGE_LENGTH);
+    NO_REPORT(hf_compare_bank(key, 16, PAGES, BANKS, room, SIZE, room, SIZE, BANKS), HF_PLACE);
+    NO_TOTALS(hf_compare_image(NULL, 0, 0, 0, NULL, 0, NULL, 0), HF_KEY_LENGTH);
+    NO_TOTALS(hf_compare_image(key, 16, PAGES, 257, room, SIZE, room, SIZE), HF_GEOMETRY);
+    NO_TOTALS(hf_compare_image(key, 16, PAGES, BANKS, room, SIZE, room, SIZE + 1), HF_IMAGE_LENGTH);
+    NO_TOTALS(hf_compare_image(key, 16, PAGES, BANKS, NULL, 0, room, SIZE), HF_IMAGE_LENGTH);
+}
+
 static void added(hf_added answer, uint32_t number, uint32_t used, int line)
 {
     want(answer.number == number && answer.used == used, line);
@@ -304,6 +357,8 @@ int main(void)
     make_long_list();
     meet_refused_lists();
     find_another_place();
+    compare_images();
+    refuse_reports();
     for (size_t at = 0; at < PLACES; at++)
         keep_settings(at);
     turn_a_block();

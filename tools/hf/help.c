@@ -46,6 +46,14 @@ static const char HELP_LIST[] =
     "\n"
     "  hf list --key @box.key --pages 64 --banks 4 game.img\n";
 
+static const char HELP_DIFF[] =
+    "Prints the pages that changed between two images of one key and geometry, with\n"
+    "bank and page in hex: those that open to their places in both, and whose plain\n"
+    "bytes differ. Then how many slots are the same, changed, and unreadable in one of\n"
+    "the images. The status is 0 where all are the same, and 1 where they are not.\n"
+    "\n"
+    "  hf diff --key @box.key --pages 64 --banks 4 monday.img tuesday.img\n";
+
 static const char HELP_OPTIONS[] =
     "  --key KEY     the key: hex text of 16, 24 or 32 bytes, or @FILE for a file of\n"
     "                that many raw bytes (not of hex text). Hex text may stay in the\n"
@@ -67,6 +75,7 @@ const struct command commands[] = {
     {"read", {"IMAGE", "BANK:OFFSET", "LENGTH"}, true, false, HELP_READ, read_span},
     {"patch", {"IMAGE", "BANK:OFFSET", "BYTES"}, false, true, HELP_PATCH, patch},
     {"list", {"IMAGE"}, false, false, HELP_LIST, list},
+    {"diff", {"OLD", "NEW"}, false, false, HELP_DIFF, diff},
 };
 enum { COMMANDS = sizeof commands / sizeof commands[0] };
 

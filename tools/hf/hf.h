@@ -22,7 +22,7 @@ struct request {
     int arguments;
 };
 
-/* One of seal, read, patch and list. */
+/* One of seal, read, patch, list and diff. */
 struct command {
     const char *name;
     const char *arguments[NAMED + 1]; /* their names, then null */
@@ -53,6 +53,7 @@ enum status seal(const struct request *request);
 enum status read_span(const struct request *request);
 enum status patch(const struct request *request);
 enum status list(const struct request *request);
+enum status diff(const struct request *request);
 
 /* options.c: reads the command line, or prints help and ends. */
 struct request request_of(int count, char **words);

@@ -67,7 +67,7 @@ static void take_argument(const char *word, struct request *request)
     if (request->command == NULL) {
         request->command = command_named(word);
         if (request->command == NULL)
-            fail_usage(NULL, "there is no command %s; the commands are seal, read, patch and list", word);
+            fail_usage(NULL, "there is no command %s; the commands are seal, read, patch, list and diff", word);
         return;
     }
     const char *name = argument_name(request->command, request->arguments);

@@ -5,6 +5,7 @@ use cipher::KeyInit;
 use driver::call::{Call, Entry, Item};
 use driver::oracle::{self, ITEMS, PAGE, RECORD};
 use driver::random::Random;
+use driver::report::{Pair, compare};
 use twofish::Twofish;
 
 /// The key lengths that are taken.
@@ -92,6 +93,34 @@ pub fn large(seed: u64, check: &mut Check) -> Result<(), String> {
         Call { entry: Entry::List, items, bytes: r.bytes(PAGE), ..call_at(&mut r, Entry::Patch, &key, (pages, banks), held, (0, 0)) };
     check.call(Kind::Large, &mut r, call)?;
     Ok(())
+}
+
+/// The report on two images, of which the newer has other pages here and there, and now and then something is wrong. Once in a while a bank has pages
+/// in every mask.
+pub fn report(seed: u64, check: &mut Check) -> Result<(), String> {
+    let mut r = Random::new(seed);
+    let key = r.bytes(TAKEN[(seed % 3) as usize]);
+    let (pages, banks) = if r.once_in(40) { (r.one(&[64, 65, 200, 256]), 1) } else { (1 + r.below(5), 1 + r.below(4)) };
+    let old = if r.once_in(3) { image(&mut r, &key, pages, banks) } else { right_image(&mut r, &key, pages, banks) };
+    let mut new = old.clone();
+    let other = image(&mut r, &key, pages, banks);
+    for slot in 0..(pages * banks) as usize {
+        if r.once_in(3) {
+            let record = RECORD * slot..RECORD * (slot + 1);
+            new[record.clone()].copy_from_slice(&other[record]);
+        }
+    }
+    let mut pair = Pair { key, pages, banks, old, new, bank: r.below(banks) };
+    match r.below(12) {
+        0 => pair.key = r.bytes((seed % 41) as usize),
+        1 => pair.pages = r.one(&EDGES),
+        2 => pair.banks = r.one(&EDGES),
+        3 => pair.old.truncate(r.below(pair.old.len() as u32) as usize),
+        4 => pair.new.push(0),
+        5 => pair.bank = r.one(&[banks, 255, 256, u32::MAX]),
+        _ => {}
+    }
+    compare(&pair, &mut r, &mut check.reports)
 }
 
 /// An image of records that are right, or wrong in one way or another.

@@ -48,6 +48,7 @@ fn case(seed: u64, check: &mut Check) -> Result<(), String> {
     cases::list(seed, check)?;
     cases::series(seed, check)?;
     settings::series(seed, &mut check.settings)?;
+    cases::report(seed, check)?;
     if seed.is_multiple_of(LARGE) {
         cases::large(seed, check)?;
     }

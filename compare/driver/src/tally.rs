@@ -2,7 +2,7 @@
 
 use driver::call::{Answer, Call, Entry, Item, hex};
 use driver::random::Random;
-use driver::{library, oracle, settings};
+use driver::{library, oracle, report, settings};
 use std::collections::BTreeSet;
 use std::fmt::Write;
 
@@ -37,6 +37,8 @@ pub struct Check {
     lengths: BTreeSet<(usize, usize)>,
     /// Which answers the calls on a store of settings gave.
     pub settings: [u64; 20],
+    /// And the reports on two images.
+    pub reports: [u64; 20],
 }
 
 impl Check {
@@ -80,13 +82,20 @@ impl Check {
             text.pop();
             text.push('\n');
         }
-        write!(text, "Settings:").unwrap();
-        for number in settings::NUMBERS {
-            write!(text, " number {number}: {},", self.settings[number]).unwrap();
+        for (kind, numbers, met) in self.others() {
+            write!(text, "{kind}:").unwrap();
+            for &number in numbers {
+                write!(text, " number {number}: {},", met[number]).unwrap();
+            }
+            text.pop();
+            text.push('\n');
         }
-        text.pop();
-        text.push('\n');
         text
+    }
+
+    /// The calls that are no entry of an image: the numbers that they answer, and how often each was met.
+    fn others(&self) -> [(&str, &[usize], &[u64; 20]); 2] {
+        [("Settings", &settings::NUMBERS, &self.settings), ("Reports", &report::NUMBERS, &self.reports)]
     }
 
     /// The first answer that no call met, if there is one.
@@ -98,8 +107,12 @@ impl Check {
                 }
             }
         }
-        let unmet = settings::NUMBERS.into_iter().find(|&number| self.settings[number] == 0)?;
-        Some(format!("no call on a store of settings was answered by {unmet}"))
+        for (kind, numbers, met) in self.others() {
+            if let Some(number) = numbers.iter().find(|&&number| met[number] == 0) {
+                return Some(format!("none of {kind} was answered by {number}"));
+            }
+        }
+        None
     }
 }
 

@@ -43,27 +43,38 @@ module _ (key : List ℕ) where
       let k = failed (taken (length key)) (refusal_number e) (λ z. never_done e (sym z)) (ap (λ (u : SetUp). u.answer.number) h) in
       (k.0, ap (λ (u : SetUp). u.answer) h ∙ ap (λ (b : Bool). answer (cond (not b) 1 0) 0) k.0)
 
--- a call
-module _ (key : List ℕ) (place : Twofish → Location) (number : Twofish → ℕ) where
-  module _ (t : Twofish) (e : handed_back (Ok t) ≡ set_up key) where
-    its_number : number t ≡ keyed key number
-    unfolding keyed
-    its_number = ap number (its_schedule key t e) ∙ sym (ap (λ (b : Bool). cond b (number (schedule_of key)) 1) (key_taken key t e))
+  pub refused_by_one : (e : Refusal) → handed_back (Err e) ≡ set_up key → refusal_number e ≡ 1
+  refused_by_one e h = ap (λ (a : Answer). a.number) (key_refused e h).1
 
-    pub answered_under : (c : ℕ) (a : Answer) → a ≡ answer_at (place t) (number t) c → a ≡ answer_at (place (schedule_of key)) (keyed key number) c
-    answered_under c a h = h ∙ ap₂ (λ (u : Twofish) (n : ℕ). answer_at (place u) n c) (its_schedule key t e) its_number
+-- a call
+module _ (key : List ℕ) (number : Twofish → ℕ) where
+  -- under a key that is taken, what is told of the schedule and the number is told of the key's and of the host's
+  module _ (t : Twofish) (e : handed_back (Ok t) ≡ set_up key) where
+    pub told_under : {X : Type 0} (tell : Twofish → ℕ → X) → tell t (number t) ≡ tell (schedule_of key) (keyed key number)
+    unfolding keyed
+    told_under tell =
+        ap₂ tell (its_schedule key t e)
+        (ap number (its_schedule key t e) ∙ sym (ap (λ (b : Bool). cond b (number (schedule_of key)) 1) (key_taken key t e)))
+
+    pub answered_under :
+        (place : Twofish → Location) (c : ℕ) (a : Answer) → a ≡ answer_at (place t) (number t) c → a ≡ answer_at (place (schedule_of key)) (keyed key number) c
+    answered_under place c a h = h ∙ told_under (λ u n. answer_at (place u) n c)
 
     pub left_under : (made : Twofish → List ℕ) (l s : List ℕ) → s ≡ leaves (number t) (made t) l → s ≡ leaves (keyed key number) (made (schedule_of key)) l
-    left_under made l s h = h ∙ ap₂ (λ (n : ℕ) (u : Twofish). leaves n (made u) l) its_number (its_schedule key t e)
+    left_under made l s h = h ∙ told_under (λ u n. leaves n (made u) l)
 
   module _ (e : Refusal) (h : handed_back (Err e) ≡ set_up key) where
     first_number : 1 ≡ keyed key number
     unfolding keyed
     first_number = sym (ap (λ (c : Bool). cond c (number (schedule_of key)) 1) (key_refused key e h).0)
 
-    pub answered_refused : (c : ℕ) (a : Answer) → a ≡ refused_answer e → a ≡ answer_at (place (schedule_of key)) (keyed key number) c
+    -- what is told of number 1 is told of the host's
+    pub told_refused : {X : Type 0} (tell : ℕ → X) → tell 1 ≡ tell (keyed key number)
+    told_refused tell = ap tell first_number
+
+    pub answered_refused : (l : Location) (c : ℕ) (a : Answer) → a ≡ refused_answer e → a ≡ answer_at l (keyed key number) c
     unfolding answer_at
-    answered_refused c a k = k ∙ (key_refused key e h).1 ∙ ap (λ (n : ℕ). answer_at (place (schedule_of key)) n c) first_number
+    answered_refused l c a k = k ∙ (key_refused key e h).1 ∙ told_refused (λ n. answer_at l n c)
 
     pub left_refused : (x l : List ℕ) → l ≡ leaves (keyed key number) x l
     unfolding leaves

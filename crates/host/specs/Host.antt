@@ -1,5 +1,5 @@
 -- A call of the host, which gives the key's bytes and not a schedule: refusal 1 takes the place of refusal 2.
-use Rattle.std.specs.Prelude.{List, ℕ, length, cond}
+use Rattle.std.specs.Prelude.{List, ℕ, Option, Some, None, length, cond}
 use Rattle.twofish.specs.declared.Twofish.{Twofish}
 use Rattle.twofish.specs.Answers.{nowhere}
 use Rattle.twofish.specs.Schedule.{taken, set_up}
@@ -21,3 +21,8 @@ keyed_list key comes_to = cond (taken (length key)) (comes_to (schedule_of key))
 -- the geometry of so many pages in a bank, and banks
 abbrev pub geometry : ℕ → ℕ → Geometry
 geometry pages banks = record { pages = pages; banks = banks }
+
+-- a page, or 256 where there is none
+abbrev pub or_none : Option ℕ → ℕ
+or_none (Some page) = page
+or_none None = 256

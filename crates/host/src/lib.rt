@@ -1,5 +1,5 @@
-// What a C host links: the two block directions, and seal, read, patch and a list of patches on a sealed image, each with the key's bytes; and the
-// settings that can go back.
+// What a C host links: the two block directions, and seal, read, patch and a list of patches on a sealed image, and the report on two images, each with the key's bytes; and
+// the settings that can go back.
 #![tactic(auto)]
 
 ghost use Rattle.std.specs.Prelude.{◌≡◌, length};
@@ -8,15 +8,22 @@ ghost use Rattle.twofish.specs.Answers.{answer, answer_at};
 ghost use Rattle.block.specs.Block.{enciphered, deciphered, block_number};
 ghost use Rattle.sealed.specs.Image.{seal_number, seen_at, other_place, access_number, patch_count, sealed_in, read_from, patched_in};
 ghost use Rattle.boxful.specs.Boxful.{judged, all_patched, all_counted, list_answer};
+ghost use Rattle.masks.specs.Masks.{is_set, masks_of, how_many, next_of};
+ghost use Rattle.report.specs.Slots.{is_same, is_changed, is_unreadable, page_changed, slots_that};
+ghost use Rattle.report.specs.Report.{report_number, bank_number, changes_answer, totals_answer};
 ghost use Rattle.settings.specs.declared.Entry.TheVariants.{Set, GoBack};
 ghost use Rattle.settings.specs.Records.{record_at, state};
 ghost use Rattle.settings.specs.Answers.{add_number, add_answer, read_number, read_answer, written};
-ghost use Rattle.host.specs.Host.{schedule_of, keyed, keyed_list, geometry};
+ghost use Rattle.host.specs.Host.{schedule_of, keyed, keyed_list, geometry, or_none};
 
 use boxful::{ListAnswer, Patch, Refused};
+use report::{ChangesAnswer, TotalsAnswer};
 use sealed::Geometry;
 use settings::{Added, Reading};
 use twofish::{Answer, Twofish};
+
+// What stands for no page: one past the last.
+const NO_PAGE: u32 = 256;
 
 // The block enciphered where it lies; a refusal leaves every byte.
 #[unsafe(no_mangle)]
@@ -120,6 +127,49 @@ pub extern "C" fn hf_patch_list(
         Ok(t) => boxful::patch_all(t, Geometry { pages, banks }, image, patches, bytes).into(),
         Err(refusal) => Err(Refused { refusal, place: 0 }).into(),
     }
+}
+
+// The pages of a bank that can be read in both images and whose plain bytes differ. A refused report is all zeros.
+#[unsafe(no_mangle)]
+pub extern "C" fn hf_compare_bank(
+    key: &[u8],
+    pages: u32,
+    banks: u32,
+    old: &[u8],
+    new: &[u8],
+    bank: u32,
+) -> ChangesAnswer
+    ensures { result ≡ changes_answer (keyed key.now (λ t. bank_number t (geometry pages banks) (length old.now) (length new.now) bank)) (masks_of (page_changed (schedule_of key.now) (geometry pages banks) old.now new.now bank)) (how_many (page_changed (schedule_of key.now) (geometry pages banks) old.now new.now bank) 256) }
+{
+    match Twofish::new(key) {
+        Ok(t) => report::compare_bank(t, Geometry { pages, banks }, old, new, bank).into(),
+        Err(refusal) => ChangesAnswer::from(Err(refusal)),
+    }
+}
+
+// How many slots of two images are the same, changed and unreadable. A refused report is all zeros.
+#[unsafe(no_mangle)]
+pub extern "C" fn hf_compare_image(
+    key: &[u8],
+    pages: u32,
+    banks: u32,
+    old: &[u8],
+    new: &[u8],
+) -> TotalsAnswer
+    ensures { result ≡ totals_answer (keyed key.now (λ t. report_number t (geometry pages banks) (length old.now) (length new.now))) (slots_that (geometry pages banks) (is_same (schedule_of key.now) (geometry pages banks) old.now new.now)) (slots_that (geometry pages banks) (is_changed (schedule_of key.now) (geometry pages banks) old.now new.now)) (slots_that (geometry pages banks) (is_unreadable (schedule_of key.now) (geometry pages banks) old.now new.now)) }
+{
+    match Twofish::new(key) {
+        Ok(t) => report::compare_image(t, Geometry { pages, banks }, old, new).into(),
+        Err(refusal) => TotalsAnswer::from(Err(refusal)),
+    }
+}
+
+// The next changed page of a report on a bank, from a given one on; 256 where there is none.
+#[unsafe(no_mangle)]
+pub extern "C" fn hf_next_changed(changes: ChangesAnswer, from: u32) -> u32
+    ensures { result ≡ or_none (next_of (is_set changes.masks) from) }
+{
+    masks::next(changes.masks, from).unwrap_or(NO_PAGE)
 }
 
 // A setting set to a value: a record more in the store. A refusal leaves every byte.

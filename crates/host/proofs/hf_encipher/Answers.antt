@@ -13,8 +13,8 @@ returns-in-Ok c =
     let a = c.args in
     let number : Twofish → ℕ = λ t. block_number t a.block.now in
     record {
-      outcome = answered_under a.key.now (λ t. nowhere) number c.in-Ok.t c.in-Ok.ensures 0 c.into.result (c.into.ensures ∙ c.encipher.ensures.outcome);
-      block = left_under a.key.now (λ t. nowhere) number c.in-Ok.t c.in-Ok.ensures (λ t. enciphered t a.block.now) a.block.now c.encipher.new.block c.encipher.ensures.block;
+      outcome = answered_under a.key.now number c.in-Ok.t c.in-Ok.ensures (λ t. nowhere) 0 c.into.result (c.into.ensures ∙ c.encipher.ensures.outcome);
+      block = left_under a.key.now number c.in-Ok.t c.in-Ok.ensures (λ t. enciphered t a.block.now) a.block.now c.encipher.new.block c.encipher.ensures.block;
     }
 
 pub returns-in-Err : goal.returns-in-Err
@@ -22,6 +22,6 @@ returns-in-Err c =
     let a = c.args in
     let number : Twofish → ℕ = λ t. block_number t a.block.now in
     record {
-      outcome = answered_refused a.key.now (λ t. nowhere) number c.in-Err.refusal c.in-Err.ensures 0 c.into-in-Err.result c.into-in-Err.ensures;
-      block = left_refused a.key.now (λ t. nowhere) number c.in-Err.refusal c.in-Err.ensures _ a.block.now;
+      outcome = answered_refused a.key.now number c.in-Err.refusal c.in-Err.ensures nowhere 0 c.into-in-Err.result c.into-in-Err.ensures;
+      block = left_refused a.key.now number c.in-Err.refusal c.in-Err.ensures _ a.block.now;
     }

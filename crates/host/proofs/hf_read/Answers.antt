@@ -4,7 +4,7 @@ use Rattle.twofish.specs.declared.Location.{Location}
 use Rattle.twofish.specs.declared.Twofish.{Twofish}
 use Rattle.block.specs.Block.{deciphered}
 use Rattle.sealed.specs.Image.{seen_at, other_place, access_number, access_answer, read_from}
-use Rattle.host.specs.Host.{geometry}
+use Rattle.host.specs.Host.{schedule_of, geometry}
 use Rattle.host.proofs.KeyLaws.{answered_under, left_under, answered_refused, left_refused}
 use Rattle.host.proofs.hf_read.Goals as goal
 
@@ -15,8 +15,8 @@ returns-in-Ok c =
     let place : Twofish → Location = λ t. other_place (seen_at t (geometry a.pages a.banks) a.image.now a.bank a.offset) in
     let number : Twofish → ℕ = λ t. access_number t (geometry a.pages a.banks) a.image.now a.bank a.offset (length a.out.now) in
     record {
-      outcome = answered_under a.key.now place number c.in-Ok.t c.in-Ok.ensures 0 c.into.result (c.into.ensures ∙ c.read.ensures.outcome);
-      out = left_under a.key.now place number c.in-Ok.t c.in-Ok.ensures (λ t. read_from (deciphered t) (geometry a.pages a.banks) a.bank a.offset (length a.out.now) a.image.now) a.out.now c.read.new.out c.read.ensures.out;
+      outcome = answered_under a.key.now number c.in-Ok.t c.in-Ok.ensures place 0 c.into.result (c.into.ensures ∙ c.read.ensures.outcome);
+      out = left_under a.key.now number c.in-Ok.t c.in-Ok.ensures (λ t. read_from (deciphered t) (geometry a.pages a.banks) a.bank a.offset (length a.out.now) a.image.now) a.out.now c.read.new.out c.read.ensures.out;
     }
 
 pub returns-in-Err : goal.returns-in-Err
@@ -25,6 +25,6 @@ returns-in-Err c =
     let place : Twofish → Location = λ t. other_place (seen_at t (geometry a.pages a.banks) a.image.now a.bank a.offset) in
     let number : Twofish → ℕ = λ t. access_number t (geometry a.pages a.banks) a.image.now a.bank a.offset (length a.out.now) in
     record {
-      outcome = answered_refused a.key.now place number c.in-Err.refusal c.in-Err.ensures 0 c.into-in-Err.result c.into-in-Err.ensures;
-      out = left_refused a.key.now place number c.in-Err.refusal c.in-Err.ensures _ a.out.now;
+      outcome = answered_refused a.key.now number c.in-Err.refusal c.in-Err.ensures (place (schedule_of a.key.now)) 0 c.into-in-Err.result c.into-in-Err.ensures;
+      out = left_refused a.key.now number c.in-Err.refusal c.in-Err.ensures _ a.out.now;
     }
