@@ -146,11 +146,21 @@ static hf_list_answer expected_list(const other *o, call *c) {
     return done(count);
 }
 
+// Sets a key of 1 to 32 bytes with zeros after it, up to the next of 16, 24 and 32. Whether the other library takes it.
+static bool set(const other *o, const uint8_t *key, size_t length) {
+    uint8_t padded[32] = {0};
+    if (length < 1 || length > 32) {
+        return false;
+    }
+    memcpy(padded, key, length);
+    return o->set(padded, length <= 16 ? 16 : length <= 24 ? 24 : 32);
+}
+
 // The call by the other library.
 static hf_list_answer expected(const other *o, call *c) {
     size_t n = c->bytes.length;
     uint8_t *bytes = start(&c->bytes), plain[PAGE];
-    if (!o->set(start(&c->key), c->key.length)) {
+    if (!set(o, start(&c->key), c->key.length)) {
         return refused(1);
     }
     if (c->entry == ENCIPHER || c->entry == DECIPHER) {
@@ -208,12 +218,12 @@ static hf_list_answer given(call *c) {
     return (hf_list_answer){.number = answer.number, .count = answer.count, .bank = answer.bank, .page = answer.page};
 }
 
-// A key length that the library takes.
+// A key length that the library takes, one in two of 16, 24 or 32.
 static size_t taken(const other *o) {
     static const uint8_t zeros[32];
     for (;;) {
-        size_t length = 16 + 8 * below(3);
-        if (o->set(zeros, length)) {
+        size_t length = below(2) ? 16 + 8 * below(3) : 1 + below(32);
+        if (set(o, zeros, length)) {
             return length;
         }
     }
@@ -224,7 +234,7 @@ static void make_record(const other *o, call *c, uint32_t bank, uint32_t page) {
     uint8_t plain[PAGE];
     bool other_place = below(8) == 0;
     fill(plain, PAGE);
-    o->set(start(&c->key), c->key.length);
+    set(o, start(&c->key), c->key.length);
     seal_record(o, other_place ? below(256) : bank, other_place ? below(256) : page, plain, record_of(c, bank, page));
 }
 
@@ -260,7 +270,7 @@ static void make_items(const other *o, call *c) {
     }
 }
 
-// A random call: right, but for up to two parts. A length of 24 is left out where the other library does not take it.
+// A random call: right, but for up to two parts. Key lengths of 17 to 24 are left out where the other library does not take 24.
 static void make(const other *o, call *c) {
     memset(c, 0, sizeof *c);
     c->entry = below(ENTRIES);
@@ -285,8 +295,8 @@ static void make(const other *o, call *c) {
         switch (below(7)) {
         case 0:
             c->key.length = below(41);
-            if (c->key.length == 24 && !o->set(start(&c->key), 24)) {
-                c->key.length = 25;
+            if (c->key.length >= 17 && c->key.length <= 24 && !set(o, start(&c->key), c->key.length)) {
+                c->key.length += 8;
             }
             break;
         case 1: c->pages = below(2) ? below(6) : UINT32_MAX - below(2); break;

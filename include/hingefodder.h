@@ -6,7 +6,8 @@
 
    For every call:
 
-   - A key, where a call takes one, comes as its bytes: 16, 24 or 32 of them. The library keeps nothing between calls, and takes no memory but stack.
+   - A key, where a call takes one, comes as its bytes: 1 to 32 of them. Up to the next of 16, 24 and 32 bytes zeros follow it, so two keys that
+     differ only in such zeros are one. The library keeps nothing between calls, and takes no memory but stack.
    - A buffer comes as a pointer and then its length. A buffer of length 0 may come with a null pointer.
    - The buffers lent to one call must not overlap; two that are only read may.
    - Any number is taken and judged. A call that is refused answers the number of its refusal and count 0, and changes no byte of any buffer.
@@ -44,7 +45,7 @@ extern "C" {
 /* What a call answers in `number`: done, or why it was refused. */
 enum hf_number {
     HF_DONE = 0,         /* done */
-    HF_KEY_LENGTH = 1,   /* the key is not 16, 24 or 32 bytes */
+    HF_KEY_LENGTH = 1,   /* the key is not 1 to 32 bytes */
     HF_SCHEDULE = 2,     /* the schedule came from no key; never answered to a host, which lends keys: 1 takes its place */
     HF_BLOCK_LENGTH = 3, /* the block is not 16 bytes */
     HF_GEOMETRY = 4,     /* pages or banks is 0 or above 256 */

@@ -12,7 +12,7 @@ static inline const char *hf_text(uint32_t number)
     case HF_DONE:
         return "done";
     case HF_KEY_LENGTH:
-        return "the key is not 16, 24 or 32 bytes";
+        return "the key is not 1 to 32 bytes";
     case HF_SCHEDULE:
         return "the schedule came from no key";
     case HF_BLOCK_LENGTH:

@@ -344,6 +344,30 @@ static void turn_a_block(void)
     WANT(all(block, 17, 0));
 }
 
+/* Zeros follow a key of 1 to 32 bytes up to its size, and no byte behind it counts; one zero more makes another key. */
+static void pad_keys(void)
+{
+    for (size_t length = 1; length <= 32; length++) {
+        size_t size = length <= 16 ? 16 : length <= 24 ? 24 : 32;
+        uint8_t padded[33] = {0}, block[16] = {0}, again[16];
+        memcpy(padded, key + 1, length);
+        DONE(hf_encipher(key + 1, length, block, 16), 0);
+        for (size_t wide = length; wide <= size; wide++) {
+            memset(again, 0, 16);
+            DONE(hf_encipher(padded, wide, again, 16), 0);
+            WANT(memcmp(block, again, 16) == 0);
+        }
+        memset(again, 0, 16);
+        if (size < 32) {
+            DONE(hf_encipher(padded, size + 1, again, 16), 0);
+            WANT(memcmp(block, again, 16) != 0);
+        } else {
+            REFUSED(hf_encipher(padded, 33, again, 16), HF_KEY_LENGTH);
+            WANT(all(again, 16, 0));
+        }
+    }
+}
+
 int main(void)
 {
     for (size_t i = 0; i < sizeof key; i++)
@@ -362,6 +386,7 @@ int main(void)
     for (size_t at = 0; at < PLACES; at++)
         keep_settings(at);
     turn_a_block();
+    pad_keys();
     for (uint32_t number = HF_DONE; number <= HF_STORE_FULL + 1; number++)
         WANT(hf_text(number)[0] != '\0');
     return wrong;

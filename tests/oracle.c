@@ -1,6 +1,7 @@
 /* oracle.c: the image that `hf seal` should make, worked out with libgcrypt alone: its CBC over its Twofish.
 
-   usage: oracle KEY PAGES BANKS ROM >IMAGE      KEY is the hex text of 16 or 32 bytes (libgcrypt has no Twofish of 24) */
+   usage: oracle KEY PAGES BANKS ROM >IMAGE      KEY is the hex text of 1 to 16 or 25 to 32 bytes (libgcrypt has no Twofish of 24). Zeros follow
+   the key up to 16 or 32 bytes. */
 
 #include <gcrypt.h>
 #include <stdio.h>
@@ -19,15 +20,15 @@ static void want(int right, const char *what)
 
 static gcry_cipher_hd_t cipher_of(const char *text)
 {
-    unsigned char key[32];
-    size_t length = strlen(text) / 2;
+    unsigned char key[32] = {0};
+    size_t length = strlen(text) / 2, size = length <= 16 ? 16 : 32;
     gcry_cipher_hd_t cipher;
-    want(length == 16 || length == 32, "the key is not 16 or 32 bytes");
+    want((length >= 1 && length <= 16) || (length >= 25 && length <= 32), "the key is not 1 to 16 or 25 to 32 bytes");
     for (size_t i = 0; i < length; i++)
         want(sscanf(text + 2 * i, "%2hhx", &key[i]) == 1, "the key is no hex text");
     want(gcry_check_version(NULL) != NULL, "no libgcrypt");
-    want(gcry_cipher_open(&cipher, length == 16 ? GCRY_CIPHER_TWOFISH128 : GCRY_CIPHER_TWOFISH, GCRY_CIPHER_MODE_CBC, 0) == 0, "no Twofish");
-    want(gcry_cipher_setkey(cipher, key, length) == 0, "the key is not taken");
+    want(gcry_cipher_open(&cipher, size == 16 ? GCRY_CIPHER_TWOFISH128 : GCRY_CIPHER_TWOFISH, GCRY_CIPHER_MODE_CBC, 0) == 0, "no Twofish");
+    want(gcry_cipher_setkey(cipher, key, size) == 0, "the key is not taken");
     return cipher;
 }
 

@@ -55,9 +55,10 @@ static const char HELP_DIFF[] =
     "  hf diff --key @box.key --pages 64 --banks 4 monday.img tuesday.img\n";
 
 static const char HELP_OPTIONS[] =
-    "  --key KEY     the key: hex text of 16, 24 or 32 bytes, or @FILE for a file of\n"
-    "                that many raw bytes (not of hex text). Hex text may stay in the\n"
-    "                shell's history; the bytes of a file do not\n"
+    "  --key KEY     the key: hex text of 1 to 32 bytes, or @FILE for a file of that\n"
+    "                many raw bytes (not of hex text). Up to the next of 16, 24 and\n"
+    "                32 bytes zeros follow it. Hex text may stay in the shell's\n"
+    "                history; the bytes of a file do not\n"
     "  --pages N     pages of a bank, 1 to 256\n"
     "  --banks N     banks of the image, 1 to 256\n"
     "  -h, --help    this help; hf COMMAND --help is the help of a command\n"

@@ -17,14 +17,24 @@ static void wipe(volatile char *at, size_t count, char with)
         at[i] = with;
 }
 
-/* A file that seems to hold hex text is taken as it is, as raw bytes, but not in silence. */
-static void note_hex_text(void)
+/* Whether a byte of the file could be one of hex text, which may have blanks between its bytes and 0x before them. */
+static bool in_hex_text(size_t i)
 {
-    size_t digits = 0;
-    for (size_t i = 0; i < length; i++)
-        digits += isxdigit(bytes[i]) != 0;
-    if (length > 0 && (digits == length || (digits == length - 1 && bytes[length - 1] == '\n')))
-        note("note: the key file seems to hold hex text; it is taken as %zu raw bytes", length);
+    return isxdigit(bytes[i]) || isspace(bytes[i]) || (i == 1 && bytes[0] == '0' && (bytes[1] == 'x' || bytes[1] == 'X'));
+}
+
+/* A file that seems to hold hex text, or a line of any text, is taken as it is, as raw bytes, but not in silence. */
+static void note_text(void)
+{
+    size_t hex = 0, text = 0;
+    for (size_t i = 0; i < length; i++) {
+        hex += in_hex_text(i);
+        text += isprint(bytes[i]) || isspace(bytes[i]);
+    }
+    if (length > 0 && hex == length)
+        note("note: the key file seems to hold hex text; it is taken as %zu raw byte%s", length, plural(length));
+    else if (length > 0 && text == length && bytes[length - 1] == '\n')
+        note("note: the key file seems to hold a line of text; its end counts among the %zu raw bytes of the key", length);
 }
 
 /* Takes the key from KEY of the command line. Hex text is overwritten there, so that a list of processes does not show it for long. */
@@ -33,7 +43,7 @@ void take_key(char *text)
     const char *file = file_named("--key", text);
     if (file != NULL) {
         length = read_file(file, bytes, KEY_ROOM);
-        note_hex_text();
+        note_text();
         return;
     }
     length = hex_of("--key", text, bytes, KEY_ROOM);

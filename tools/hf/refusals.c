@@ -7,7 +7,7 @@
 static _Noreturn void refuse_key(const struct image *image)
 {
     bool longer = image->key_length >= KEY_ROOM;
-    fail(REFUSED, "refused by 1: the key has %s%zu byte%s, but a key has 16, 24 or 32", longer ? "at least " : "", image->key_length,
+    fail(REFUSED, "refused by 1: the key has %s%zu byte%s, but a key has 1 to 32", longer ? "at least " : "", image->key_length,
          plural(image->key_length));
 }
 

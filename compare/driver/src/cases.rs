@@ -1,15 +1,14 @@
 //! The cases of one seed: calls on blocks and on images, most of them right, the others wrong in every way that the rules name.
 
 use crate::tally::{Check, Kind};
-use cipher::KeyInit;
 use driver::call::{Call, Entry, Item};
 use driver::oracle::{self, ITEMS, PAGE, RECORD};
 use driver::random::Random;
 use driver::report::{Pair, compare};
 use twofish::Twofish;
 
-/// The key lengths that are taken.
-const TAKEN: [usize; 3] = [16, 24, 32];
+/// The key lengths that are taken without a zero after them.
+const WHOLE: [usize; 3] = [16, 24, 32];
 
 /// Numbers at which a sum, a product or a narrower type would go wrong.
 const EDGES: [u32; 16] = [0, 1, 2, 15, 16, 255, 256, 257, 65_535, 65_536, 65_537, 1 << 24, 1 << 31, u32::MAX - 255, u32::MAX - 1, u32::MAX];
@@ -19,7 +18,7 @@ pub fn blocks(seed: u64, check: &mut Check) -> Result<(), String> {
     let mut r = Random::new(seed);
     let key = r.bytes((seed % 41) as usize);
     let block = r.bytes((seed / 41 % 33) as usize);
-    let taken = (r.bytes(TAKEN[(seed % 3) as usize]), r.bytes(16));
+    let taken = (r.bytes(WHOLE[(seed % 3) as usize]), r.bytes(16));
     for (key, block) in [(key, block), taken] {
         check.lengths(key.len(), block.len());
         for entry in [Entry::Encipher, Entry::Decipher] {
@@ -29,10 +28,16 @@ pub fn blocks(seed: u64, check: &mut Check) -> Result<(), String> {
     Ok(())
 }
 
+/// A key of 1 to 32 bytes, one seed in two of 16, 24 or 32.
+fn key(r: &mut Random, seed: u64) -> Vec<u8> {
+    let n = seed / 2;
+    r.bytes(if seed.is_multiple_of(2) { WHOLE[(n % 3) as usize] } else { 1 + (n % 32) as usize })
+}
+
 /// One call on a small image.
 pub fn single(seed: u64, check: &mut Check) -> Result<(), String> {
     let mut r = Random::new(seed);
-    let key = r.bytes(TAKEN[(seed % 3) as usize]);
+    let key = key(&mut r, seed);
     let (pages, banks) = (1 + r.below(5), 1 + r.below(4));
     let image = image(&mut r, &key, pages, banks);
     let mut call = call(&mut r, &key, (pages, banks), image);
@@ -44,7 +49,7 @@ pub fn single(seed: u64, check: &mut Check) -> Result<(), String> {
 /// One list on a small image.
 pub fn list(seed: u64, check: &mut Check) -> Result<(), String> {
     let mut r = Random::new(seed);
-    let key = r.bytes(TAKEN[(seed % 3) as usize]);
+    let key = key(&mut r, seed);
     let (pages, banks) = (1 + r.below(5), 1 + r.below(4));
     let image = if r.once_in(3) { image(&mut r, &key, pages, banks) } else { right_image(&mut r, &key, pages, banks) };
     let mut call = list_call(&mut r, &key, (pages, banks), image);
@@ -56,7 +61,7 @@ pub fn list(seed: u64, check: &mut Check) -> Result<(), String> {
 /// A series of calls on one image, whose records are damaged now and then between them.
 pub fn series(seed: u64, check: &mut Check) -> Result<(), String> {
     let mut r = Random::new(seed);
-    let key = r.bytes(TAKEN[(seed % 3) as usize]);
+    let key = key(&mut r, seed);
     let (pages, banks) = (1 + r.below(4), 1 + r.below(3));
     let mut held = image(&mut r, &key, pages, banks);
     for _ in 0..1 + r.below(24) {
@@ -77,7 +82,7 @@ pub fn series(seed: u64, check: &mut Check) -> Result<(), String> {
 /// Calls on a large image, at its first and last places and at one between them, and a list of all three.
 pub fn large(seed: u64, check: &mut Check) -> Result<(), String> {
     let mut r = Random::new(seed);
-    let key = r.bytes(TAKEN[(seed % 3) as usize]);
+    let key = key(&mut r, seed);
     let (pages, banks) = r.one(&[(256, 256), (255, 256), (256, 255), (64, 200), (1, 256), (256, 1)]);
     let mut held = vec![0; RECORD * pages as usize * banks as usize];
     r.fill(&mut held);
@@ -99,7 +104,7 @@ pub fn large(seed: u64, check: &mut Check) -> Result<(), String> {
 /// in every mask.
 pub fn report(seed: u64, check: &mut Check) -> Result<(), String> {
     let mut r = Random::new(seed);
-    let key = r.bytes(TAKEN[(seed % 3) as usize]);
+    let key = key(&mut r, seed);
     let (pages, banks) = if r.once_in(40) { (r.one(&[64, 65, 200, 256]), 1) } else { (1 + r.below(5), 1 + r.below(4)) };
     let old = if r.once_in(3) { image(&mut r, &key, pages, banks) } else { right_image(&mut r, &key, pages, banks) };
     let mut new = old.clone();
@@ -125,7 +130,7 @@ pub fn report(seed: u64, check: &mut Check) -> Result<(), String> {
 
 /// An image of records that are right, or wrong in one way or another.
 fn image(r: &mut Random, key: &[u8], pages: u32, banks: u32) -> Vec<u8> {
-    let t = Twofish::new_from_slice(key).expect("a key that is taken");
+    let t = oracle::set_up(key).expect("a key that is taken");
     let mut image = Vec::new();
     for bank in 0..banks {
         for page in 0..pages {
@@ -148,7 +153,7 @@ fn image(r: &mut Random, key: &[u8], pages: u32, banks: u32) -> Vec<u8> {
 
 /// An image whose every record is right.
 fn right_image(r: &mut Random, key: &[u8], pages: u32, banks: u32) -> Vec<u8> {
-    let t = Twofish::new_from_slice(key).expect("a key that is taken");
+    let t = oracle::set_up(key).expect("a key that is taken");
     let places = (0..banks).flat_map(|bank| (0..pages).map(move |page| (bank as u8, page as u8)));
     places.flat_map(|(bank, page)| oracle::sealed(&t, bank, page, &r.bytes(PAGE))).collect()
 }
@@ -254,10 +259,14 @@ fn spoil_item(r: &mut Random, item: &mut Item, (pages, banks): (u32, u32), lent:
 fn spoil(r: &mut Random, call: &mut Call) {
     for _ in 0..r.one(&[0, 0, 0, 0, 1, 1, 1, 2, 3]) {
         match r.below(9) {
-            0 => {
-                let length = r.one(&[0, 1, 8, 15, 17, 23, 25, 31, 33, 40, 64]);
-                call.key = r.bytes(length);
-            }
+            0 => match r.below(3) {
+                0 => call.key.push(0),
+                1 => call.key = r.bytes(33),
+                _ => {
+                    let length = r.one(&[0, 1, 8, 15, 17, 23, 25, 31, 40, 64]);
+                    call.key = r.bytes(length);
+                }
+            },
             1 => call.pages = number(r, call.pages),
             2 => call.banks = number(r, call.banks),
             3 => (call.pages, call.banks) = (call.banks, call.pages),

@@ -1,13 +1,11 @@
 //! A fixed list of questions with the crate's answers, as the program `answers` of the gate reads the first and prints the second.
 
-use cipher::KeyInit;
 use driver::call::hex;
 use driver::oracle;
 use driver::random::Random;
 use std::fmt::Write;
-use twofish::Twofish;
 
-const LENGTHS: [usize; 10] = [0, 15, 16, 17, 23, 24, 25, 31, 32, 33];
+const LENGTHS: [usize; 13] = [0, 1, 5, 13, 15, 16, 17, 23, 24, 25, 31, 32, 33];
 
 /// Questions for each length: the same byte throughout first, then random ones.
 const EACH: u64 = 6;
@@ -15,7 +13,8 @@ const EACH_TAKEN: u64 = 60;
 
 const HEAD: &str = "\
 # Questions, a line each: a block and a key in hex; a block alone asks with a key of no bytes. The file stdout has the answers of the crate
-# twofish 0.8.0: the block enciphered and deciphered, or the number of the refusal where the crate refuses the key. `compare/run list` makes both.
+# twofish 0.8.0 under the key with zeros after it up to 16, 24 or 32 bytes: the block enciphered and deciphered, or the number of the refusal where
+# the key has no byte or more than 32. `compare/run list` makes both.
 ";
 
 /// The keys and blocks of the list.
@@ -48,9 +47,12 @@ pub fn questions() -> String {
 pub fn answers() -> String {
     let mut text = String::new();
     for (key, block) in asked() {
-        let Ok(t) = Twofish::new_from_slice(&key) else {
-            text.push_str("refused: 1\n");
-            continue;
+        let t = match oracle::set_up(&key) {
+            Ok(t) => t,
+            Err(number) => {
+                writeln!(text, "refused: {number}").unwrap();
+                continue;
+            }
         };
         let (mut forth, mut back) = (block, block);
         oracle::encipher(&t, &mut forth);

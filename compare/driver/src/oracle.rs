@@ -67,9 +67,21 @@ impl From<u32> for Answer {
     }
 }
 
+/// The crate under a key of 1 to 32 bytes, or refusal 1. The crate takes 16, 24 and 32 bytes, so zeros follow the key up to the next of these.
+pub fn set_up(key: &[u8]) -> Result<Twofish, u32> {
+    if key.is_empty() || key.len() > 32 {
+        return Err(1);
+    }
+    let mut padded = key.to_vec();
+    while ![16, 24, 32].contains(&padded.len()) {
+        padded.push(0);
+    }
+    Ok(Twofish::new_from_slice(&padded).expect("a key of 16, 24 or 32 bytes"))
+}
+
 /// The count, or the first refusal that holds.
 fn made(call: &mut Call) -> Result<u32, Answer> {
-    let t = Twofish::new_from_slice(&call.key).map_err(|_| 1u32)?;
+    let t = set_up(&call.key)?;
     match call.entry {
         Entry::Encipher => encipher(&t, block_of(call)?),
         Entry::Decipher => decipher(&t, block_of(call)?),

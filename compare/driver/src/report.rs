@@ -1,9 +1,8 @@
 //! The report on two images, beside the same worked out by the crate page by page.
 
 use crate::library::Lent;
-use crate::oracle::{PAGE, RECORD, opened};
+use crate::oracle::{PAGE, RECORD, opened, set_up};
 use crate::random::Random;
-use cipher::KeyInit;
 use twofish::Twofish;
 
 /// What is answered of a bank.
@@ -63,7 +62,7 @@ fn changed(t: &Twofish, pair: &Pair, bank: u32, number: u32) -> Option<bool> {
 
 /// The first refusal that holds of both reports, or the crate's schedule.
 fn judged(pair: &Pair) -> Result<Twofish, u32> {
-    let t = Twofish::new_from_slice(&pair.key).map_err(|_| 1u32)?;
+    let t = set_up(&pair.key)?;
     if !(1..=256).contains(&pair.pages) || !(1..=256).contains(&pair.banks) {
         return Err(4);
     }

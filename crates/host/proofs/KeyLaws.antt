@@ -8,9 +8,9 @@ use Rattle.twofish.specs.declared.Location.{Location}
 use Rattle.twofish.specs.declared.Refusal.{Refusal}
 use Rattle.twofish.specs.declared.Twofish.{Twofish}
 use Rattle.twofish.specs.Answers.{nowhere, told, answer_at, answer, refusal_number, refused_answer}
-use Rattle.twofish.specs.Schedule.{schedule, refused, SetUp, taken, set_up, key_number, handed_back}
+use Rattle.twofish.specs.Schedule.{schedule, refused, SetUp, taken, padded, units, set_up, key_number, handed_back}
 use Rattle.twofish.proofs.AnswerLaws.{never_done}
-use Rattle.twofish.proofs.ScheduleLaws.{taken_units}
+use Rattle.twofish.proofs.PaddingLaws.{taken_fits, padded_units}
 use borrow.Author.Tests.{ltb-true}
 use lib.Dec.{T}
 use Rattle.boxful.specs.declared.ListAnswer.{ListAnswer}
@@ -117,8 +117,8 @@ module _ (key : List ℕ) (comes_to : Twofish → Judged) where
 pub start_taken : (key : List ℕ) → taken (length key) ≡ true → (schedule_of key).start ≤ 2
 unfolding schedule_of set_up schedule
 start_taken key e =
-    let few : 2 ≤ length key / 8 = (taken_units (length key) e).1 in
-    subst (λ (t : Twofish). t.start ≤ 2) (ap (λ (b : Bool). cond b (schedule key (length key / 8)) refused) (sym e)) (omega (arith, few))
+    let few : 2 ≤ units (padded key) = (padded_units key (taken_fits _ e).1).1 in
+    subst (λ (t : Twofish). t.start ≤ 2) (ap (λ (b : Bool). cond b (schedule (padded key) (units (padded key))) refused) (sym e)) (omega (arith, few))
 
 -- so a host's call, whose order begins with refusal 2 and has it only there, is never refused by 2
 pub never_two :

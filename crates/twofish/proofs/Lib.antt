@@ -1,5 +1,6 @@
 pub mod ListLaws
 pub mod HLaws
 pub mod ScheduleLaws
+pub mod PaddingLaws
 pub mod AnswerLaws
 pub mod Unique

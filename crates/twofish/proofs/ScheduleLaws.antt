@@ -1,17 +1,15 @@
--- Laws of the key schedule: a pair of subkeys as the code sums it, and the S bytes.
+-- Laws of the key schedule: a pair of subkeys as the code sums it, the S bytes, and what set-up hands back.
 use mathlib.Core.Path.{◌≡◌, refl, ap, ap₂, ◌∙◌}
-use mathlib.Core.Bool.{Bool, true, false, ◌||◌}
+use mathlib.Core.Bool.{true, false}
 use mathlib.Core.List.{List}
-use Prim.Native.Nat.{ℕ, ◌+◌, ◌*◌, ◌/◌, ◌%◌, ◌^◌, ◌≤◌}
+use Prim.Native.Nat.{ℕ, ◌+◌, ◌*◌, ◌/◌, ◌%◌, ◌^◌}
 use native.Mathlib.Omega.{arith}
 use lib.ListN.{length}
-use lib.Dec.{eqb, lit≤}
-use borrow.Author.Tests.{eqb-true}
 use Rattle.words.specs.Word.{rol, sum32}
 use Rattle.spans.specs.Refusals.{given}
 use Rattle.field.specs.Matrix.{times}
 use Rattle.twofish.specs.H.{h}
-use Rattle.twofish.specs.Schedule.{ρ, m_e, m_o, a_word, b_word, k_word, s_bytes, schedule, refused, taken, key_number, set_up}
+use Rattle.twofish.specs.Schedule.{ρ, m_e, m_o, a_word, b_word, k_word, s_bytes, schedule, refused, taken, padded, units, key_number, set_up}
 use Rattle.twofish.specs.Answers.{nowhere, told, answer_at}
 use Rattle.twofish.specs.declared.Twofish.{Twofish}
 
@@ -47,24 +45,9 @@ pub s_four : (m : List ℕ) (i : ℕ) → length (s_bytes m i) ≡ 4
 unfolding s_bytes times
 s_four m i = refl
 
--- a length that is taken is 8 k, with k from 2 to 4
-pub taken_units : (n : ℕ) → taken n ≡ true → (n ≡ 8 * (n / 8)) × (2 ≤ n / 8) × (n / 8 ≤ 4)
-unfolding taken
-taken_units n e = by (eqb n 16) (eqb n 24) (eqb n 32) refl refl refl e
-  where
-    is : (k : ℕ) → n ≡ 8 * k → 2 ≤ k → k ≤ 4 → (n ≡ 8 * (n / 8)) × (2 ≤ n / 8) × (n / 8 ≤ 4)
-    is k w lo hi = (omega arith, omega arith, omega arith)
-
-    by : (a b c : Bool) → eqb n 16 ≡ a → eqb n 24 ≡ b → eqb n 32 ≡ c → (a || (b || c)) ≡ true
-        → (n ≡ 8 * (n / 8)) × (2 ≤ n / 8) × (n / 8 ≤ 4)
-    by true b c ea eb ec t = is 2 (eqb-true n 16 ea) (lit≤ tt) (lit≤ tt)
-    by false true c ea eb ec t = is 3 (eqb-true n 24 eb) (lit≤ tt) (lit≤ tt)
-    by false false true ea eb ec t = is 4 (eqb-true n 32 ec) (lit≤ tt) (lit≤ tt)
-    by false false false ea eb ec t = absurd (let z : ◌≡◌ {A = ℕ} 0 1 = cc in omega arith)
-
 -- what set-up hands back for a length that is taken, and for another
 pub set_up_taken :
-    (m : List ℕ) (t : Twofish) → taken (length m) ≡ true → t ≡ schedule m (length m / 8)
+    (m : List ℕ) (t : Twofish) → taken (length m) ≡ true → t ≡ schedule (padded m) (units (padded m))
     → record { answer = told 0 0 nowhere; schedule = t } ≡ set_up m
 unfolding set_up key_number given answer_at
 set_up_taken m t e et = rw e (ap (λ (u : Twofish). record { answer = told 0 0 nowhere; schedule = u }) et)

@@ -1,5 +1,5 @@
 -- The paper's key schedule, and what set-up hands back for each key.
-use Rattle.std.specs.Prelude.{Result, Ok, Err, Bool, not, ◌||◌, List, [], ◌∷◌, ◌++◌, ℕ, ◌+◌, ◌-◌, ◌*◌, ◌/◌, ◌%◌, ◌^◌, eqb, length, take, drop, replicate, cond}
+use Rattle.std.specs.Prelude.{Result, Ok, Err, Bool, not, ◌&&◌, List, [], ◌∷◌, ◌++◌, ℕ, ◌+◌, ◌-◌, ◌*◌, ◌/◌, ◌%◌, ◌^◌, eqb, ltb, leb, length, take, drop, replicate, cond}
 use Rattle.words.specs.Word.{rol}
 use Rattle.std.specs.List.{concat}
 use Rattle.spans.specs.Refusals.{◌when◌, given}
@@ -68,9 +68,17 @@ unfoldable pub handed_back : Result Twofish Refusal → SetUp
 handed_back (Ok t) = record { answer = told 0 0 nowhere; schedule = t }
 handed_back (Err e) = record { answer = refused_answer e; schedule = refused }
 
--- the key lengths that are taken
+-- the key lengths that are taken: 1 to 32
 unfoldable pub taken : ℕ → Bool
-taken n = eqb n 16 || (eqb n 24 || eqb n 32)
+taken n = ltb 0 n && leb n 32
+
+-- the size of a key of n bytes: the next of 16, 24 and 32
+unfoldable pub size : ℕ → ℕ
+size n = cond (leb n 16) 16 (cond (leb n 24) 24 32)
+
+-- a key with zeros after it, up to its size
+unfoldable pub padded : List ℕ → List ℕ
+padded m = m ++ replicate (size (length m) - length m) 0
 
 -- refusal 1: the key's length is not taken
 unfoldable pub key_number : List ℕ → ℕ
@@ -80,7 +88,7 @@ key_number m = given (1 when not (taken (length m)) ∷ [])
 abbrev pub units : List ℕ → ℕ
 units m = length m / 8
 
--- what set-up hands back for any bytes
+-- what set-up hands back for any bytes: of a length that is taken the schedule of the padded key
 unfoldable pub set_up : List ℕ → SetUp
 set_up m =
-    record { answer = answer (key_number m) 0; schedule = cond (taken (length m)) (schedule m (units m)) refused }
+    record { answer = answer (key_number m) 0; schedule = cond (taken (length m)) (schedule (padded m) (units (padded m))) refused }

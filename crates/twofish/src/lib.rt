@@ -1,16 +1,15 @@
 // The cipher's type with its constants, and key set-up: h over the key's words, the subkeys and the S bytes.
 #![tactic(auto)]
 
-ghost use Rattle.std.specs.Prelude.{◌≡◌, ◌++◌, ◌+◌, ◌-◌, ◌*◌, ◌<◌, ◌≤◌, true, false, length, replicate, MatchResult};
+ghost use Rattle.std.specs.Prelude.{◌≡◌, ◌++◌, ◌+◌, ◌-◌, ◌*◌, ◌<◌, ◌≤◌, length, replicate};
 ghost use Rattle.words.specs.Word.{bytes_of};
 ghost use Rattle.spans.specs.Bytes.{Bytes, xor_bytes};
 ghost use Rattle.std.specs.List.{concat};
 ghost use Rattle.twofish.specs.Lists.{listed, word_at};
 ghost use Rattle.twofish.specs.H.{through, h};
 ghost use Rattle.twofish.specs.Half.{first_of};
-ghost use Rattle.twofish.specs.Schedule.{every_other, s_bytes, k_word, schedule, taken, units, set_up, handed_back};
+ghost use Rattle.twofish.specs.Schedule.{every_other, s_bytes, k_word, schedule, taken, size, units, set_up, handed_back};
 ghost use Rattle.twofish.specs.Answers.{nowhere, told, refusal_number, refusal_location, refused_answer, answered, counted};
-ghost use Rattle.twofish.specs.declared.Refusal.TheVariants.{KeyLength};
 
 // The bank and the page that a record is of.
 #[derive(Clone, Copy, Debug, PartialEq, Eq)]
@@ -22,7 +21,7 @@ pub struct Location {
 // Why a call is refused.
 #[derive(Clone, Copy, Debug, PartialEq, Eq)]
 pub enum Refusal {
-    // The key is not 16, 24 or 32 bytes.
+    // The key is not 1 to 32 bytes.
     KeyLength,
     // The schedule's start is above 2.
     Start,
@@ -158,25 +157,36 @@ struct Key<'a> {
     ghost few: { units m.now ≤ 4 },
 }
 
-// The key lengths that are taken: 16, 24 and 32 bytes.
+// Whether a key's length is taken: 1 to 32 bytes.
+#[tactic(auto, using(std::proofs::lemmas::Bool::Decides::nat_tests), unfolding(crate::specs::Schedule::taken))]
 fn taken(n: usize) -> bool
     ensures { result ≡ taken n }
 {
-    matches!(n, 16 | 24 | 32)
+    0 < n && n <= 32
 }
 
-impl<'a> TryFrom<&'a [u8]> for Key<'a> {
-    type Error = Refusal;
-
-    ghost try_from_gives = { λ m r. MatchResult r (λ key. (taken (length m.now) ≡ true) × (key.m.now ≡ m.now)) (λ e. (taken (length m.now) ≡ false) × (e ≡ KeyLength)) };
-
-    fn try_from(m: &'a [u8]) -> Result<Key<'a>, Refusal> {
-        if taken(m.len()) {
-            Ok(Key { m })
-        } else {
-            Err(Refusal::KeyLength)
-        }
+// The size of a key of n bytes, up to which zeros follow it: the next of 16, 24 and 32.
+#[tactic(auto, using(std::proofs::lemmas::Bool::Decides::nat_tests), unfolding(crate::specs::Schedule::size))]
+fn size(n: usize) -> usize
+    ensures { result ≡ size n }
+{
+    if n <= 16 {
+        16
+    } else if n <= 24 {
+        24
+    } else {
+        32
     }
+}
+
+// A key of at most 32 bytes with zeros after it, 32 bytes in all.
+fn with_zeros(key: &[u8]) -> [u8; 32]
+    requires { length key.now ≤ 32 }
+    ensures { result ≡ key.now ++ replicate (32 - length key.now) 0 }
+{
+    let mut m = [0u8; 32];
+    m[0..key.len()].copy_from_slice(key);
+    m
 }
 
 // Every other word of a key: M_0, M_2, .. or M_1, M_3, ..
@@ -295,11 +305,17 @@ impl Twofish {
         }
     }
 
-    // Set-up of any bytes as a key: refused unless their length is taken.
+    // Set-up of any bytes as a key: refused unless their length is taken, and else that of the key with zeros up to its size.
     pub fn new(key: &[u8]) -> Result<Twofish, Refusal>
         ensures { handed_back result ≡ set_up key.now }
     {
-        let key = Key::try_from(key)?;
+        if !taken(key.len()) {
+            return Err(Refusal::KeyLength);
+        }
+        let m = with_zeros(key);
+        let key = Key {
+            m: &m[..size(key.len())],
+        };
         Ok(Twofish::key_schedule(&key))
     }
 }
@@ -313,13 +329,12 @@ mod tests {
         let key = [0u8; 33];
         let starts = [
             (0, None),
-            (15, None),
+            (1, Some(2)),
+            (13, Some(2)),
             (16, Some(2)),
-            (17, None),
-            (23, None),
+            (17, Some(1)),
             (24, Some(1)),
-            (25, None),
-            (31, None),
+            (25, Some(0)),
             (32, Some(0)),
             (33, None),
         ];
