@@ -125,7 +125,9 @@ pub fn compare(pair: &Pair, r: &mut Random, numbers: &mut [u64; 20]) -> Result<(
     }
     let wanted = (wanted_changes(pair), wanted_totals(pair));
     if (changes, totals) != wanted || !damage.is_empty() {
-        return Err(format!("report with pages {pages}, banks {banks}, bank {bank}: {changes:?} {totals:?}, and by the crate {wanted:?}; {damage:?}"));
+        return Err(format!(
+            "report with pages {pages}, banks {banks}, bank {bank}: {changes:?} {totals:?}, and by the crate {wanted:?}; {damage:?}"
+        ));
     }
     for from in (0..260).chain([u32::MAX]) {
         let next = (from..256).find(|page| changes.masks[*page as usize / 64] >> (page % 64) & 1 == 1).unwrap_or(256);

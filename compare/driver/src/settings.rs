@@ -112,16 +112,16 @@ fn given(call: Call, store: &mut [u8], used: u32, shift: usize) -> (Answer, Vec<
     (answer, damage)
 }
 
-/// A record of a store, most of them sets.
+/// A call on a store, most of them sets.
 fn call(r: &mut Random, used: u32) -> Call {
     let version = if r.once_in(8) { r.one(&[0, used, used.wrapping_add(1), u32::MAX]) } else { r.below(used.min(MOST) + 1) };
     match r.below(4) {
         0 => Call::GoBack { version },
         1 => Call::Read { version },
-        _ => Call::Set {
-            setting: if r.once_in(12) { r.one(&[31, 32, 255, 256, u32::MAX]) } else { r.below(32) },
-            value: r.number() as u32,
-        },
+        _ => {
+            let setting = if r.once_in(12) { r.one(&[31, 32, 255, 256, u32::MAX]) } else { r.below(32) };
+            Call::Set { setting, value: r.number() as u32 }
+        }
     }
 }
 
