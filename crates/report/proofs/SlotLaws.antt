@@ -147,27 +147,22 @@ module _ (t : Twofish) (G : Geometry) (old new : List ℕ) (bank page : ℕ) whe
   pub unreadable_new : is_refused (seen t G new bank page) ≡ true → Finds t G old new bank page Unreadable
   unreadable_new h = found_of (no_new (seen t G old bank page) (seen t G new bank page) _ h)
 
+  both_own :
+      (s s' : Seen) (b c : Bool) → is_own s ≡ true → is_own s' ≡ true → b ≡ c
+      → (c ≡ (is_own s && is_own s' && b)) × (not c ≡ (is_own s && is_own s' && not b)) × (false ≡ (is_refused s || is_refused s'))
+  both_own Own Own b c h k e = (sym e, sym (ap not e), refl)
+  both_own Own (Other l) b c h k e = absurd (cc)
+  both_own Own NoPlace b c h k e = absurd (cc)
+  both_own (Other l) s' b c h k e = absurd (cc)
+  both_own NoPlace s' b c h k e = absurd (cc)
+
   -- where both can be read, by whether their pages are equal
   module _ (o : is_own (seen t G old bank page) ≡ true) (n : is_own (seen t G new bank page) ≡ true) where
     pub same_pages : pointwise eqb (plain t G old bank page) (plain t G new bank page) ≡ true → Finds t G old new bank page Same
-    same_pages e = found_of (by (seen t G old bank page) (seen t G new bank page) _ o n e)
-      where
-        by : (s s' : Seen) (b : Bool) → is_own s ≡ true → is_own s' ≡ true → b ≡ true → (true ≡ (is_own s && is_own s' && b)) × (false ≡ (is_own s && is_own s' && not b)) × (false ≡ (is_refused s || is_refused s'))
-        by Own Own b h k e = (sym e, sym (ap not e), refl)
-        by Own (Other l) b h k e = absurd (cc)
-        by Own NoPlace b h k e = absurd (cc)
-        by (Other l) s' b h k e = absurd (cc)
-        by NoPlace s' b h k e = absurd (cc)
+    same_pages e = found_of (both_own (seen t G old bank page) (seen t G new bank page) _ true o n e)
 
     pub other_pages : pointwise eqb (plain t G old bank page) (plain t G new bank page) ≡ false → Finds t G old new bank page Changed
-    other_pages e = found_of (by (seen t G old bank page) (seen t G new bank page) _ o n e)
-      where
-        by : (s s' : Seen) (b : Bool) → is_own s ≡ true → is_own s' ≡ true → b ≡ false → (false ≡ (is_own s && is_own s' && b)) × (true ≡ (is_own s && is_own s' && not b)) × (false ≡ (is_refused s || is_refused s'))
-        by Own Own b h k e = (sym e, sym (ap not e), refl)
-        by Own (Other l) b h k e = absurd (cc)
-        by Own NoPlace b h k e = absurd (cc)
-        by (Other l) s' b h k e = absurd (cc)
-        by NoPlace s' b h k e = absurd (cc)
+    other_pages e = found_of (both_own (seen t G old bank page) (seen t G new bank page) _ false o n e)
 
 -- the same record in both images, of which the old can be read: so can the new, and it holds the same page
 module _ (t : Twofish) (G : Geometry) (old new : List ℕ) (bank page : ℕ) (e : record_at G bank (256 * page / 256) old ≡ record_at G bank (256 * page / 256) new) where
