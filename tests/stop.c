@@ -28,6 +28,14 @@ static int stopped(const char *call)
     return 1;
 }
 
+/* hf leaves a signal ignored that it finds so, as SIGINT is where a shell runs the tests in the background: here it is let through. */
+__attribute__((constructor)) static void let_through(void)
+{
+    const char *by = getenv("STOP_BY");
+    if (by != NULL && atoi(by) != 0)
+        signal(atoi(by), SIG_DFL);
+}
+
 ssize_t write(int file, const void *bytes, size_t length)
 {
     ssize_t (*next)(int, const void *, size_t) = (ssize_t(*)(int, const void *, size_t))dlsym(RTLD_NEXT, "write");
