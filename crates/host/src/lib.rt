@@ -1,5 +1,5 @@
-// What a C host links: the two block directions, and seal, read, patch and a list of patches on a sealed image, and the report on two images, each with the key's bytes; and
-// the settings that can go back.
+// What a C host links. With the key's bytes: the two block directions; seal, read, patch and a list of patches on a sealed image; the report on two
+// images. Without a key: the next page of a report, and the settings that can go back.
 #![tactic(auto)]
 
 ghost use Rattle.std.specs.Prelude.{◌≡◌, length};
