@@ -72,10 +72,6 @@ masks_of-bits (a ∷ b ∷ c ∷ d ∷ []) m =
     let s = number-digits 64 d (m.small 3) (λ n. is_set l (192 + n)) (λ i h. sym (is_set-at l 3 i h)) in
     cc
 
--- so masks with the same bits are the same
-pub masks_same : (masks others : List ℕ) → Masks masks → Masks others → ((page : ℕ) → page < 256 → is_set masks page ≡ is_set others page) → masks ≡ others
-masks_same masks others m o same = masks_of-bits masks m ∙ masks_of-same (is_set masks) (is_set others) same ∙ sym (masks_of-bits others o)
-
 -- the ones of four masks are as many as bits are set
 pub ones-set :
     (masks : List ℕ) → ((j : ℕ) → get_or masks j 0 < 2 ^ 64)

@@ -1,7 +1,7 @@
 -- Laws of refusals and answers: outcomes that are answered alike are the same, and what no refusal says.
 use Rattle.std.proofs.Common.{◌≡◌, ℕ, ◌+◌, ◌≤◌, Bool, true, false, not, ◌||◌, eqb, cond, List, length, refl, sym, ap, ap₂, ◌∙◌, arith}
 use Rattle.std.specs.Prelude.{Result, Ok, Err}
-use borrow.Author.Tests.{ne_eqb, eqb-true, ltb-false}
+use borrow.Author.Tests.{ne_eqb, eqb-true, ltb-false, not-false}
 use Rattle.spans.specs.Refusals.{given, leaves}
 use Rattle.spans.proofs.RefusalLaws.{given_zero, refusal_leaves}
 use Rattle.settings.specs.declared.Refusal.{Refusal}
@@ -11,6 +11,7 @@ use Rattle.settings.specs.declared.Added.{Added}
 use Rattle.settings.specs.declared.Reading.{Reading}
 use Rattle.settings.specs.Records.{broken, zeros}
 use Rattle.settings.specs.Answers.{refusal_number, refusals, add_answer, added, read_answer, reading}
+use Rattle.settings.proofs.RecordLaws.{neither}
 
 -- the refusal with a number
 numbered : ℕ → Refusal
@@ -56,16 +57,12 @@ pub record Taken (store : List ℕ) (used : ℕ) (out full : Bool) : Type 0 wher
   pub inside : out ≡ false
   pub room : full ≡ false
 
-neither : (a b : Bool) → (not a || b) ≡ false → (a ≡ true) × (b ≡ false)
-neither true b e = (refl, e)
-neither false b e = absurd cc
-
 pub takes : (store : List ℕ) (used : ℕ) (out full : Bool) → 0 ≡ given (refusals store used out full) → Taken store used out full
 unfolding refusals
 takes store used out full e =
     let h = (given_zero (refusals store used out full) tt).0 (sym e) in
     let k = neither _ _ h.0 in
-    record { long = eqb-true _ _ k.0; few = ltb-false _ _ k.1; whole = h.1.0; inside = h.1.1.0; room = h.1.1.1.0 }
+    record { long = eqb-true _ _ (not-false _ k.0); few = ltb-false _ _ k.1; whole = h.1.0; inside = h.1.1.0; room = h.1.1.1.0 }
 
 -- what a refused call answers and leaves
 module _ (e : Refusal) {n : ℕ} (h : refusal_number e ≡ n) where

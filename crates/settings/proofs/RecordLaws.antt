@@ -27,13 +27,9 @@ pub version_inside : (before version : ℕ) → outside before (GoBack version) 
 unfolding outside
 version_inside before version e = ltb-false _ _ e
 
-neither : (a b : Bool) → (a || b) ≡ false → (a ≡ false) × (b ≡ false)
+pub neither : (a b : Bool) → (a || b) ≡ false → (a ≡ false) × (b ≡ false)
 neither true b e = absurd cc
 neither false b e = (refl, e)
-
-either : (a b : Bool) → b ≡ true → (a || b) ≡ true
-either true b e = refl
-either false b e = e
 
 -- a record that keeps the layout says nothing outside
 said_inside : (before : ℕ) (r : List ℕ) → breaks before r ≡ false → outside before (said r) ≡ false
