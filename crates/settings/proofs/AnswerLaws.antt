@@ -1,5 +1,5 @@
 -- Laws of refusals and answers: outcomes that are answered alike are the same, and what no refusal says.
-use Rattle.std.proofs.Common.{◌≡◌, ℕ, ◌+◌, ◌≤◌, Bool, true, false, not, ◌||◌, eqb, cond, List, length, refl, sym, ap, ap₂, ◌∙◌, arith}
+use Rattle.std.proofs.Common.{◌≡◌, ℕ, ◌+◌, ◌≤◌, Bool, false, eqb, cond, List, length, refl, sym, ap, ap₂, ◌∙◌, arith}
 use Rattle.std.specs.Prelude.{Result, Ok, Err}
 use borrow.Author.Tests.{ne_eqb, eqb-true, ltb-false, not-false}
 use Rattle.spans.specs.Refusals.{given, leaves}

@@ -1,11 +1,11 @@
 -- Any series of calls from an empty store: it goes as on the list of the accepted records, and the store holds these.
-use Rattle.std.proofs.Common.{◌≡◌, ◌≢◌, ℕ, ◌≤◌, eqb, ltb, List, [], ◌∷◌, length, All, refl, sym, ap₂, subst, ◌∙◌, arith}
+use Rattle.std.proofs.Common.{◌≡◌, ◌≢◌, ℕ, ◌≤◌, List, [], ◌∷◌, length, All, refl, sym, ap₂, subst, ◌∙◌, arith}
 use Rattle.std.proofs.lemmas.List.Elements.{All-nil, All-cons, All-head, All-tail}
 use borrow.Author.Tests.{le-ltb}
-use Rattle.spans.specs.Refusals.{◌when◌, given}
+use Rattle.spans.specs.Refusals.{given}
 use Rattle.spans.proofs.RefusalLaws.{never_given}
 use Rattle.settings.specs.declared.Entry.{Entry}
-use Rattle.settings.specs.Records.{outside, state}
+use Rattle.settings.specs.Records.{state}
 use Rattle.settings.specs.Answers.{add_answer, read_answer}
 use Rattle.settings.specs.Calls.{Call, Add, Read, Fits32, Answer, Reads, answer_number, answers, at_end, Held, store_answer, on_store, list_number, accepted_at, list_answer, on_list, Holds}
 use Rattle.settings.proofs.HoldsLaws.{Right, answer_held, still_right}
